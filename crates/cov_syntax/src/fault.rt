@@ -1,0 +1,105 @@
+ghost use Rattle.std.specs.Prelude.{◌≡◌};
+ghost use Rattle.cov_syntax.specs.Faults.{code_of};
+
+use crate::error::NoMemory;
+use crate::tree::Span;
+
+/// What is wrong with a model's text. The names are those that error lines print.
+#[derive(Clone, Copy, Debug, PartialEq, Eq)]
+pub enum FaultKind {
+    BadByte,
+    Syntax,
+    NoMain,
+    UnknownModule,
+    RecursiveModule,
+    WrongArguments,
+    DuplicateName,
+    UnknownName,
+    NameClash,
+    BadType,
+    Kind,
+    SetPlace,
+    CaseNotClosed,
+    DivisorMayBeZero,
+    RangeTooWide,
+    DoubleAssign,
+    Circular,
+    NextPlace,
+    TemporalPlace,
+    LeftOut,
+    TooManyBits,
+    TooDeep,
+    TooLarge,
+    FileTooLong,
+    /// The model is right, and the command does not serve it yet.
+    NotBuilt,
+}
+
+impl FaultKind {
+    /// The number of the fault, from 1 in the order above.
+    pub fn code(self) -> u8
+        ensures { result ≡ code_of self }
+    {
+        match self {
+            FaultKind::BadByte => 1,
+            FaultKind::Syntax => 2,
+            FaultKind::NoMain => 3,
+            FaultKind::UnknownModule => 4,
+            FaultKind::RecursiveModule => 5,
+            FaultKind::WrongArguments => 6,
+            FaultKind::DuplicateName => 7,
+            FaultKind::UnknownName => 8,
+            FaultKind::NameClash => 9,
+            FaultKind::BadType => 10,
+            FaultKind::Kind => 11,
+            FaultKind::SetPlace => 12,
+            FaultKind::CaseNotClosed => 13,
+            FaultKind::DivisorMayBeZero => 14,
+            FaultKind::RangeTooWide => 15,
+            FaultKind::DoubleAssign => 16,
+            FaultKind::Circular => 17,
+            FaultKind::NextPlace => 18,
+            FaultKind::TemporalPlace => 19,
+            FaultKind::LeftOut => 20,
+            FaultKind::TooManyBits => 21,
+            FaultKind::TooDeep => 22,
+            FaultKind::TooLarge => 23,
+            FaultKind::FileTooLong => 24,
+            FaultKind::NotBuilt => 25,
+        }
+    }
+
+    /// This fault at a place of the text.
+    pub fn at(self, place: Span) -> ModelFault
+        ensures { result ≡ record { code = code_of self; place = place } }
+    {
+        ModelFault {
+            code: self.code(),
+            place,
+        }
+    }
+}
+
+/// A fault of a model: the number of a `FaultKind`, and where it is in the text.
+#[derive(Clone, Copy, Debug, PartialEq, Eq)]
+pub struct ModelFault {
+    pub code: u8,
+    pub place: Span,
+}
+
+/// Why a text gives no model.
+#[derive(Clone, Copy, Debug, PartialEq, Eq)]
+pub enum Refused {
+    Fault(ModelFault),
+    Memory,
+}
+
+impl From<NoMemory> for Refused {
+    ghost use Rattle.cov_syntax.specs.declared.fault.Refused.TheVariants.{Memory};
+
+    ghost from_gives = { λ _ e. e ≡ Memory };
+
+    fn from(_: NoMemory) -> Refused {
+        Refused::Memory
+    }
+}
