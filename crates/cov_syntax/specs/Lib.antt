@@ -1,3 +1,11 @@
+pub mod Cuts
 pub mod Faults
+pub mod Lexemes
+pub mod Limits
+pub mod Marks
+pub mod Programs
+pub mod Reading
 pub mod Texts
+pub mod Tokens
+pub mod Words
 pub mod formers

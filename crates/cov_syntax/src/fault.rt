@@ -1,7 +1,8 @@
-ghost use Rattle.std.specs.Prelude.{◌≡◌};
-ghost use Rattle.cov_syntax.specs.Faults.{code_of};
+ghost use Rattle.std.specs.Prelude.{◌≡◌, ◌≤◌, length};
+ghost use Rattle.cov_syntax.specs.Faults.{code_of, kind_name, kind_numbered, name_of};
 
 use crate::error::NoMemory;
+use crate::table::entry;
 use crate::tree::Span;
 
 /// What is wrong with a model's text. The names are those that error lines print.
@@ -34,6 +35,35 @@ pub enum FaultKind {
     /// The model is right, and the command does not serve it yet.
     NotBuilt,
 }
+
+/// The faults in the order of their numbers.
+const KINDS: [FaultKind; 25] = [
+    FaultKind::BadByte,
+    FaultKind::Syntax,
+    FaultKind::NoMain,
+    FaultKind::UnknownModule,
+    FaultKind::RecursiveModule,
+    FaultKind::WrongArguments,
+    FaultKind::DuplicateName,
+    FaultKind::UnknownName,
+    FaultKind::NameClash,
+    FaultKind::BadType,
+    FaultKind::Kind,
+    FaultKind::SetPlace,
+    FaultKind::CaseNotClosed,
+    FaultKind::DivisorMayBeZero,
+    FaultKind::RangeTooWide,
+    FaultKind::DoubleAssign,
+    FaultKind::Circular,
+    FaultKind::NextPlace,
+    FaultKind::TemporalPlace,
+    FaultKind::LeftOut,
+    FaultKind::TooManyBits,
+    FaultKind::TooDeep,
+    FaultKind::TooLarge,
+    FaultKind::FileTooLong,
+    FaultKind::NotBuilt,
+];
 
 impl FaultKind {
     /// The number of the fault, from 1 in the order above.
@@ -69,6 +99,51 @@ impl FaultKind {
         }
     }
 
+    /// The name in error lines, in ASCII.
+    pub fn name(self) -> &'static str
+        ensures name { result.now ≡ kind_name self }
+        ensures short { length result.now ≤ 16 }
+    {
+        match self {
+            FaultKind::BadByte => "BadByte",
+            FaultKind::Syntax => "Syntax",
+            FaultKind::NoMain => "NoMain",
+            FaultKind::UnknownModule => "UnknownModule",
+            FaultKind::RecursiveModule => "RecursiveModule",
+            FaultKind::WrongArguments => "WrongArguments",
+            FaultKind::DuplicateName => "DuplicateName",
+            FaultKind::UnknownName => "UnknownName",
+            FaultKind::NameClash => "NameClash",
+            FaultKind::BadType => "BadType",
+            FaultKind::Kind => "Kind",
+            FaultKind::SetPlace => "SetPlace",
+            FaultKind::CaseNotClosed => "CaseNotClosed",
+            FaultKind::DivisorMayBeZero => "DivisorMayBeZero",
+            FaultKind::RangeTooWide => "RangeTooWide",
+            FaultKind::DoubleAssign => "DoubleAssign",
+            FaultKind::Circular => "Circular",
+            FaultKind::NextPlace => "NextPlace",
+            FaultKind::TemporalPlace => "TemporalPlace",
+            FaultKind::LeftOut => "LeftOut",
+            FaultKind::TooManyBits => "TooManyBits",
+            FaultKind::TooDeep => "TooDeep",
+            FaultKind::TooLarge => "TooLarge",
+            FaultKind::FileTooLong => "FileTooLong",
+            FaultKind::NotBuilt => "NotBuilt",
+        }
+    }
+
+    /// The fault of a number, if there is one.
+    pub fn from_code(code: u8) -> Option<FaultKind>
+        ensures { result ≡ kind_numbered code }
+    {
+        if code == 0 {
+            None
+        } else {
+            entry(&KINDS, code - 1)
+        }
+    }
+
     /// This fault at a place of the text.
     pub fn at(self, place: Span) -> ModelFault
         ensures { result ≡ record { code = code_of self; place = place } }
@@ -85,6 +160,19 @@ impl FaultKind {
 pub struct ModelFault {
     pub code: u8,
     pub place: Span,
+}
+
+impl ModelFault {
+    /// The name in error lines, in ASCII, and nothing for a number that is no fault's.
+    pub fn name(self) -> &'static str
+        ensures name { result.now ≡ name_of self.code }
+        ensures short { length result.now ≤ 16 }
+    {
+        match FaultKind::from_code(self.code) {
+            Some(kind) => kind.name(),
+            None => "",
+        }
+    }
 }
 
 /// Why a text gives no model.

@@ -1,29 +1,32 @@
-ghost use Rattle.std.specs.Prelude.{◌≡◌, ◌≢◌, ℕ, [], ◌∷◌, ◌++◌, ◌<◌, ◌^◌, ◌-◌, length, slice_get, IfOk, OnOk, OnErr, IfSome, IfNone, Contains, All, IsTrue, ◌↔◌};
+ghost use Rattle.std.specs.Prelude.{◌≡◌, ◌≢◌, [], ◌∷◌, ◌++◌, ◌<◌, ◌^◌, ◌-◌, length, slice_get, IfOk, OnOk, OnErr, IfSome, IfNone, Contains, All};
 
 use crate::error::NoMemory;
 use crate::seq::Seq;
 use std::alloc::Global;
+use std::collections::BTreeMap;
 use std::marker::Model;
 
 /// A list of bytes.
 pub type Text = Seq<u8>;
 
-/// Distinct texts, each named by its place in the list.
+/// Distinct texts, each named by its place in the list, and found in time logarithmic in their number.
 #[derive(Drop)]
 pub struct Names {
     alloc: Global,
-    texts: Seq<Text>,
+    texts: Vec<Text>,
+    /// The place of each text. A map owns its keys, so each text is held here a second time.
+    places: BTreeMap<Vec<u8>, u32>,
 }
 
 impl Model for Names {
     ghost use Rattle.std.specs.Prelude.{List, ℕ, length, ◌<◌, ◌^◌};
-    ghost use Rattle.cov_syntax.specs.Texts.{IsDistinctTexts};
+    ghost use Rattle.cov_syntax.specs.Texts.{IsDistinctTexts, IsIndexOf, place_in};
 
     ghost Value = { List (List ℕ) };
 
-    ghost view = { λ n. n.texts };
+    ghost view = { λ n. n.texts.items };
 
-    ghost invariant = { λ n. IsDistinctTexts n.texts × (length n.texts < 2 ^ 32) };
+    ghost invariant = { λ n. IsDistinctTexts n.texts.items × (length n.texts.items < 2 ^ 32) × IsIndexOf (place_in n.places) n.texts.items };
 }
 
 impl Names {
@@ -33,7 +36,8 @@ impl Names {
     {
         Names {
             alloc,
-            texts: Seq::new(alloc),
+            texts: Vec::new(alloc),
+            places: BTreeMap::new(alloc),
         }
     }
 
@@ -48,15 +52,14 @@ impl Names {
         requires { i < length self.now }
         ensures { slice_get self.now i ≡ Some result.now }
     {
-        self.texts.get(i as usize).as_slice()
+        self.texts[i as usize].as_slice()
     }
 
     pub fn find(&self, text: &[u8]) -> Option<u32>
         ensures found { IfSome result (λ i. slice_get self.now i ≡ Some text.now) }
         ensures none { IfNone result (All (λ t. t ≢ text.now) self.now) }
     {
-        let i = place_of(self.texts.as_slice(), text)?;
-        Some(i as u32)
+        self.places.get(text).copied()
     }
 
     /// The place of the text, which is put last where it is not held.
@@ -73,25 +76,11 @@ impl Names {
         let i = self.len();
         let mut copy = Seq::new(self.alloc);
         copy.extend_from_slice(text)?;
+        let key = Vec::from_slice(self.alloc, text)?;
+        // Room for the text, so that its push does not fail.
+        self.texts.reserve(1)?;
+        self.places.insert(key, i)?;
         self.texts.push(copy)?;
         Ok(i)
     }
-}
-
-fn place_of(texts: &[Text], text: &[u8]) -> Option<usize>
-    ensures found { IfSome result (λ i. slice_get texts.now i ≡ Some text.now) }
-    ensures none { IfNone result (All (λ t. t ≢ text.now) texts.now) }
-{
-    for (i, t) in texts.iter().enumerate() {
-        if same_text(t.as_slice(), text) {
-            return Some(i);
-        }
-    }
-    None
-}
-
-fn same_text(a: &[u8], b: &[u8]) -> bool
-    ensures { IsTrue result ↔ (a.now ≡ b.now) }
-{
-    a == b
 }

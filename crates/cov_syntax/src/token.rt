@@ -1,6 +1,6 @@
 use crate::tree::Span;
 
-/// What a token is. Reserved words and marks have the numbers of their tables.
+/// What a token is. Reserved words have the numbers of `Word`, and marks those of `Mark`.
 #[derive(Clone, Copy, Debug, PartialEq, Eq)]
 pub enum TokenKind {
     Name,
