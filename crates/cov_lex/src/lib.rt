@@ -1,0 +1,13 @@
+//! Cuts a text into tokens.
+#![tactic(auto)]
+
+mod bytes;
+mod front;
+mod mark;
+mod scan;
+#[cfg(test)]
+mod tests;
+mod word;
+
+pub use scan::lex;
+pub use word::spelled;

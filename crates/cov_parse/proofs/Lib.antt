@@ -1,0 +1,4 @@
+pub mod Loops
+pub mod MeaningLemmas
+pub mod DepthLemmas
+pub mod ProgramLemmas

@@ -1,0 +1,12 @@
+use Rattle.std.proofs.Common.{◌≡◌, ◌-◌, length, sym, ◌∙◌}
+use Rattle.cov_syntax.specs.declared.lexeme.Terminal.TheVariants as k
+use Rattle.cov_syntax.specs.declared.marks.Mark.TheVariants as m
+use Rattle.cov_grammar.specs.Steps.{spelled_name}
+use Rattle.cov_parse.proofs.Loops.{separated_step}
+use Rattle.cov_parse.proofs.modules.names.Goals as goal
+
+pub loop-turn-preserved : goal.loop-turn-preserved
+loop-turn-preserved c =
+    c.loop-turn.invariant
+    ∙ separated_step (k.Mark m.Comma) spelled_name (length c.args.lexemes.now) c.loop-turn._turn c.loop-turn.found _ c.loop-turn.rest.now c.in_ok-name.name c.in_ok-name.after.now _ c.loop-turn-test.true
+    c.in_ok-name.ensures (sym c.if-not-is_next.ensures) c.next-rest.ensures c.in_ok-push.ensures.ok
