@@ -1,0 +1,17 @@
+pub mod Diagrams
+pub mod Canonical
+pub mod Growth
+pub mod CofactorLemmas
+pub mod MakeLemmas
+pub mod Splitting
+pub mod Recursion
+pub mod Rows
+pub mod OperationLemmas
+pub mod Values
+pub mod Pigeonhole
+pub mod NeedLemmas
+pub mod Moved
+pub mod MarkLemmas
+pub mod ReachLemmas
+pub mod SizeLemmas
+pub mod DependLemmas

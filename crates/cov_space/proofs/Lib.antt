@@ -1,0 +1,10 @@
+pub mod Sets
+pub mod Rows
+pub mod Calls
+pub mod Quantified
+pub mod Shifted
+pub mod Members
+pub mod Ignoring
+pub mod TaskLemmas
+pub mod BoundLemmas
+pub mod SpaceLemmas
