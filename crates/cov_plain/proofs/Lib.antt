@@ -1,0 +1,9 @@
+pub mod Structures
+pub mod Places
+pub mod ListSets
+pub mod UntilTurns
+pub mod LivingTurns
+pub mod OperatorSets
+pub mod FixpointSets
+pub mod VerdictLists
+pub mod FormulaNodes

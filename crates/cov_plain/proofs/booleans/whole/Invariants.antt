@@ -1,0 +1,5 @@
+use Rattle.cov_plain.specs.Sets.{IsSetOf}
+use Rattle.cov_plain.proofs.booleans.whole.Given as goal
+
+abbrev pub invariant-loop-v : goal.invariant-loop-v
+invariant-loop-v l = IsSetOf l.v l.result.items (λ v. Unit {0})
