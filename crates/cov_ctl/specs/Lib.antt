@@ -1,0 +1,4 @@
+pub mod Lowered
+pub mod Sizes
+pub mod Temporal
+pub mod Written

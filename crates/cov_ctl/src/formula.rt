@@ -1,0 +1,45 @@
+ghost use Rattle.std.specs.Prelude.{◌≡◌, ◌≤◌};
+ghost use Rattle.cov_ctl.specs.Sizes as spec;
+
+use cov_syntax::Expr;
+use sqlite_items::Boxed;
+
+/// A formula of CTL over fair paths, after Clarke and Emerson (1981). An atom is an expression without CTL operators.
+#[derive(Drop)]
+pub enum Formula {
+    Atom(Expr),
+    Not(Boxed<Formula>),
+    And(Boxed<Formula>, Boxed<Formula>),
+    Or(Boxed<Formula>, Boxed<Formula>),
+    Implies(Boxed<Formula>, Boxed<Formula>),
+    Ex(Boxed<Formula>),
+    Ef(Boxed<Formula>),
+    Eg(Boxed<Formula>),
+    Eu(Boxed<Formula>, Boxed<Formula>),
+    Ax(Boxed<Formula>),
+    Af(Boxed<Formula>),
+    Ag(Boxed<Formula>),
+    Au(Boxed<Formula>, Boxed<Formula>),
+}
+
+/// The number of nodes, atoms among them.
+pub fn size(f: &Formula) -> u32
+    requires { spec.size f.now ≤ 4096 }
+    ensures { result ≡ spec.size f.now }
+{
+    match f {
+        Formula::Atom(_) => 1,
+        Formula::Not(f) => 1 + size(f.get()),
+        Formula::And(f, g) => 1 + size(f.get()) + size(g.get()),
+        Formula::Or(f, g) => 1 + size(f.get()) + size(g.get()),
+        Formula::Implies(f, g) => 1 + size(f.get()) + size(g.get()),
+        Formula::Ex(f) => 1 + size(f.get()),
+        Formula::Ef(f) => 1 + size(f.get()),
+        Formula::Eg(f) => 1 + size(f.get()),
+        Formula::Eu(f, g) => 1 + size(f.get()) + size(g.get()),
+        Formula::Ax(f) => 1 + size(f.get()),
+        Formula::Af(f) => 1 + size(f.get()),
+        Formula::Ag(f) => 1 + size(f.get()),
+        Formula::Au(f, g) => 1 + size(f.get()) + size(g.get()),
+    }
+}

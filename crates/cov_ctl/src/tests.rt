@@ -1,0 +1,78 @@
+use crate::{lower, lowered_size, size};
+use cov_syntax::{Expr, NoMemory, Node, Op1, Op2, Span};
+use sqlite_items::Boxed;
+use std::alloc::Global;
+use std::test::Fail;
+
+fn put(node: Node) -> Expr {
+    Expr {
+        node,
+        place: Span { start: 0, stop: 0 },
+    }
+}
+
+fn one(alloc: Global, op: Op1, a: Expr) -> Result<Expr, NoMemory> {
+    Ok(put(Node::One(op, Boxed::new(alloc, a)?)))
+}
+
+fn two(alloc: Global, op: Op2, a: Expr, b: Expr) -> Result<Expr, NoMemory> {
+    let a = Boxed::new(alloc, a)?;
+    Ok(put(Node::Two(op, a, Boxed::new(alloc, b)?)))
+}
+
+fn q() -> Expr {
+    put(Node::Var(0))
+}
+
+/// `AG (q op AX !q)`.
+fn always(alloc: Global, op: Op2) -> Result<Expr, NoMemory> {
+    let not_q = one(alloc, Op1::Not, q())?;
+    let next = one(alloc, Op1::Ax, not_q)?;
+    let both = two(alloc, op, q(), next)?;
+    one(alloc, Op1::Ag, both)
+}
+
+/// The size of the lowered formula, which is small.
+fn lowered_nodes(alloc: Global, e: &Expr) -> Result<u32, NoMemory> {
+    let nodes = lowered_size(e);
+    let f = lower(alloc, e)?;
+    if nodes > 4096 {
+        return Ok(0);
+    }
+    Ok(size(&f))
+}
+
+#[test]
+fn a_temporal_iff_is_written_out(rt: HostRuntime) -> Result<(), Fail> {
+    let alloc = rt.alloc();
+    for (op, nodes) in [
+        (Op2::Iff, 14),
+        (Op2::Xor, 14),
+        (Op2::And, 6),
+        (Op2::Implies, 6),
+    ] {
+        let e = always(alloc, op)?;
+        assert_eq!(rt; lowered_size(&e), nodes);
+        assert_eq!(rt; lowered_nodes(alloc, &e)?, nodes);
+    }
+    Ok(())
+}
+
+#[test]
+fn a_propositional_iff_is_one_atom(rt: HostRuntime) -> Result<(), Fail> {
+    let alloc = rt.alloc();
+    let e = two(alloc, Op2::Iff, q(), one(alloc, Op1::Not, q())?)?;
+    assert_eq!(rt; lowered_nodes(alloc, &e)?, 1);
+    Ok(())
+}
+
+#[test]
+fn counting_ends_above_the_limit(rt: HostRuntime) -> Result<(), Fail> {
+    let alloc = rt.alloc();
+    let mut e = one(alloc, Op1::Ex, q())?;
+    for _ in 0..40 {
+        e = two(alloc, Op2::Iff, e, q())?;
+    }
+    assert_eq!(rt; lowered_size(&e), 4097);
+    Ok(())
+}

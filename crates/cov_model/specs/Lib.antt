@@ -1,0 +1,17 @@
+pub mod Accepted
+pub mod Atoms
+pub mod Kinds
+pub mod Laws
+pub mod Machine
+pub mod Meaning
+pub mod Names
+pub mod Order
+pub mod Paths
+pub mod Settled
+pub mod States
+pub mod Trees
+pub mod Types
+pub mod Values
+pub mod Walk
+pub mod WellFormed
+pub mod Written

@@ -1,0 +1,9 @@
+pub mod PrintingLemmas
+pub mod Folds
+pub mod WrittenTexts
+pub mod WordLemmas
+pub mod Again
+pub mod Operators
+pub mod LeafLemmas
+pub mod Rereading
+pub mod WholeTexts

@@ -1,0 +1,93 @@
+ghost use Rattle.std.specs.Prelude.{◌≡◌, [], ◌++◌, OnOk, nat_lt, slice_index_or};
+ghost use Rattle.std.specs.Fmt.{signed_decimal};
+ghost use Rattle.cov_show.specs.Printing as spec;
+ghost use Rattle.cov_show.specs.Printing.{Labels, name_labels, printed};
+
+use crate::words::{TIGHTEST, infix_level, prefix_level};
+use cov_syntax::{Expr, Names, NoMemory, Node, Op1, Text, Value};
+use itoa::Buffer;
+
+/// The level of an expression.
+fn level(e: &Expr) -> u32
+    ensures { (labels : Labels) → result ≡ (printed labels e.now).level }
+{
+    match &e.node {
+        Node::One(op, _) => prefix_level(*op),
+        Node::Two(op, _, _) => infix_level(*op),
+        _ => TIGHTEST,
+    }
+}
+
+/// Whether it is an integer, a range or a unary minus.
+fn is_signed(e: &Expr) -> bool
+    ensures { (labels : Labels) → result ≡ (printed labels e.now).is_signed }
+{
+    matches!(
+        &e.node,
+        Node::Lit(Value::Int(_)) | Node::Range(_, _) | Node::One(Op1::Neg, _)
+    )
+}
+
+/// Whether its level is lower than the one that is asked.
+pub fn is_looser(e: &Expr, asked: u32) -> bool
+    ensures { (labels : Labels) → result ≡ nat_lt (printed labels e.now).level asked }
+{
+    level(e) < asked
+}
+
+/// Whether parentheses stand round it behind a unary minus.
+pub fn is_grouped_behind_minus(e: &Expr) -> bool
+    ensures { (labels : Labels) → result ≡ spec.is_grouped_behind_minus (printed labels e.now) }
+{
+    is_signed(e) || level(e) < TIGHTEST
+}
+
+fn name_text(names: &Names, i: u32) -> &[u8]
+    ensures { result.now ≡ slice_index_or names.now i [] }
+{
+    if i < names.len() { names.text(i) } else { b"" }
+}
+
+fn show_name(names: &Names, i: u32, into: &mut Text) -> Result<(), NoMemory>
+    ensures { OnOk result (into.new ≡ into.old ++ slice_index_or names.now i []) }
+{
+    into.extend_from_slice(name_text(names, i))
+}
+
+fn show_integer(i: i32, into: &mut Text) -> Result<(), NoMemory>
+    ensures { OnOk result (into.new ≡ into.old ++ signed_decimal i) }
+{
+    into.extend_from_slice(Buffer::new().format(i).as_bytes())
+}
+
+pub fn show_value(names: &Names, value: Value, into: &mut Text) -> Result<(), NoMemory>
+    ensures { OnOk result (into.new ≡ into.old ++ (spec.value_printed (name_labels names.now) value).bytes) }
+{
+    match value {
+        Value::Bool(true) => into.extend_from_slice(b"TRUE"),
+        Value::Bool(false) => into.extend_from_slice(b"FALSE"),
+        Value::Int(i) => show_integer(i, into),
+        Value::Sym(i) => show_name(names, i, into),
+    }
+}
+
+pub fn show_range(low: i32, high: i32, into: &mut Text) -> Result<(), NoMemory>
+    ensures { OnOk result (into.new ≡ into.old ++ spec.range_text low high) }
+{
+    show_integer(low, into)?;
+    into.extend_from_slice(b"..")?;
+    show_integer(high, into)
+}
+
+/// The names with a dot between each two.
+pub fn show_path(names: &Names, path: &[u32], into: &mut Text) -> Result<(), NoMemory>
+    ensures { OnOk result (into.new ≡ into.old ++ spec.path_text (name_labels names.now) [] path.now) }
+{
+    let mut mark: &[u8] = b"";
+    for i in path {
+        into.extend_from_slice(mark)?;
+        show_name(names, *i, into)?;
+        mark = b".";
+    }
+    Ok(())
+}
