@@ -1,0 +1,9 @@
+pub mod States
+pub mod Cubes
+pub mod Tests
+pub mod StateSets
+pub mod BooleanCubes
+pub mod Cofactors
+pub mod InitialCubes
+pub mod Structures
+pub mod Turns

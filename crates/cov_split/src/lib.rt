@@ -1,0 +1,19 @@
+//! Sets of states of a small model as decision diagrams, built by splitting on each variable in turn, and their cubes.
+#![tactic(auto)]
+
+mod cubes;
+mod fixpoints;
+mod front;
+mod initial;
+mod split;
+mod state_set;
+mod truth;
+mod turns;
+mod verdict;
+
+pub use cubes::{Class, Cube};
+pub use initial::initial_cubes;
+pub use verdict::{Verdict, verdict_of};
+
+#[cfg(test)]
+mod tests;
