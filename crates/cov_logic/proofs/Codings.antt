@@ -1,5 +1,5 @@
 -- A coding keeps truth, verdicts and what is reachable.
-use Rattle.std.proofs.Common.{◌≡◌, ℕ, suc, ◌<◌, Bool, if◌then◌else◌, IsTrue, ◌⊎◌, ◌↔◌, inl, inr, List, [], ◌∷◌, map, refl, sym, ap, ◌∙◌, subst}
+use Rattle.std.proofs.Common.{◌≡◌, ℕ, suc, Bool, if◌then◌else◌, IsTrue, ◌↔◌, inl, inr, List, [], ◌∷◌, map, refl, sym, ap, ◌∙◌, subst}
 use Rattle.cov_logic.specs.Structure.{Structure}
 use Rattle.cov_logic.specs.Lasso.{Lasso, first_of, Leads}
 use Rattle.cov_logic.specs.Suffix.{at}

@@ -1,11 +1,11 @@
 -- The image of a lasso under a map of states that keeps steps and fairness sets.
-use Rattle.std.proofs.Common.{◌≡◌, ℕ, zero, suc, ◌||◌, IsTrue, inl, inr, List, [], ◌∷◌, map, refl, sym, ap, ◌∙◌, subst}
+use Rattle.std.proofs.Common.{◌≡◌, ℕ, zero, suc, IsTrue, inl, inr, List, [], ◌∷◌, map, refl, sym, ap, ◌∙◌, subst}
 use Rattle.std.specs.List.{AllByRecursion, list_any}
 use Rattle.std.proofs.lemmas.Bool.{or_cases, or_left, or_right}
 use Rattle.cov_logic.specs.Structure.{Structure}
 use Rattle.cov_logic.specs.Lasso.{Lasso, first_of, Leads}
 use Rattle.cov_logic.specs.Suffix.{at}
-use Rattle.cov_logic.specs.FairLasso.{IsFair, IsFairFrom}
+use Rattle.cov_logic.specs.FairLasso.{IsFairFrom}
 use Rattle.cov_logic.specs.Sets.{Set}
 
 -- each state is replaced by its image

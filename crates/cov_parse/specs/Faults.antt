@@ -1,5 +1,5 @@
 -- The fault of a text at which parsing stops.
-use Rattle.std.specs.Prelude.{ℕ, zero, suc, ◌+◌, ◌-◌, Bool, true, false, if◌then◌else◌, nat_le, List, length, take, slice_get, Option, Some, None, Result, Ok, Err}
+use Rattle.std.specs.Prelude.{ℕ, zero, suc, ◌+◌, ◌-◌, ◌==◌, ◌||◌, Bool, true, false, IsTrue, if◌then◌else◌, nat_le, List, length, take, slice_get, Option, Some, None, Result, Ok, Err}
 use Rattle.cov_syntax.specs.declared.fault.FaultKind.{FaultKind}
 use Rattle.cov_syntax.specs.declared.fault.FaultKind.TheVariants as kind
 use Rattle.cov_syntax.specs.declared.fault.Refused.{Refused}
@@ -61,3 +61,12 @@ deep_by text front deep (Err (Stop.too_great left)) = refusal text front (errors
 -- the same, where the lexeme with so many left is too deep
 unfoldable pub deep_refusal : List ℕ → Lexemes → ℕ → Refused
 deep_refusal text xs left = deep_by text (take (length xs - left + 1) xs) (place_of text xs left) (program (take (length xs - left + 1) xs))
+
+-- the faults that the grammar tells: Syntax, RangeTooWide, LeftOut and TooDeep
+abbrev pub is_grammar_code : ℕ → Bool
+is_grammar_code code = code == code_of kind.Syntax || code == code_of kind.RangeTooWide || code == code_of kind.LeftOut || code == code_of kind.TooDeep
+
+-- a refusal is one of these, or a want of memory
+abbrev pub IsGrammarRefusal : Refused → Type 0
+IsGrammarRefusal (refused.Fault f) = IsTrue (is_grammar_code f.code)
+IsGrammarRefusal refused.Memory = Unit {0}

@@ -1,6 +1,7 @@
 //! Faults of a text, and where they are.
 
-ghost use Rattle.std.specs.Prelude.{◌≡◌, ◌≢◌, ◌<◌, ◌^◌, length};
+ghost use Rattle.std.specs.Prelude.{◌≡◌, ◌≢◌, ◌<◌, ◌^◌, length, IsTrue};
+ghost use Rattle.cov_syntax.specs.Faults.{code_of};
 ghost use Rattle.cov_syntax.specs.declared.fault.Refused.TheVariants as Refused;
 ghost use Rattle.cov_parse.specs.Faults as spec;
 
@@ -44,7 +45,8 @@ fn is_left_out(lexeme: Option<Lexeme>) -> bool
 }
 
 fn unread_kind(lexeme: Option<Lexeme>) -> FaultKind
-    ensures { result ≡ spec.unread_kind lexeme }
+    ensures value { result ≡ spec.unread_kind lexeme }
+    ensures code { IsTrue (spec.is_grammar_code (code_of result)) }
 {
     if is_left_out(lexeme) {
         FaultKind::LeftOut
@@ -56,7 +58,8 @@ fn unread_kind(lexeme: Option<Lexeme>) -> FaultKind
 /// Why nothing is read, with its place in the text.
 pub fn refused(text: &[u8], lexemes: &[Lexeme], error: ParseError) -> Refused
     requires { length text.now < 2 ^ 32 }
-    ensures { result ≡ spec.refusal text.now lexemes.now error }
+    ensures value { result ≡ spec.refusal text.now lexemes.now error }
+    ensures code { spec.IsGrammarRefusal result }
 {
     let (kind, left) = match error {
         ParseError::Memory => return Refused::Memory,
@@ -70,7 +73,8 @@ pub fn refused(text: &[u8], lexemes: &[Lexeme], error: ParseError) -> Refused
 #[tactic(auto, using(std::proofs::lemmas::List::take_min), unfolding(crate::specs::Faults::deep_refusal))]
 pub fn deep_fault(alloc: Global, text: &[u8], lexemes: &[Lexeme], left: usize) -> Refused
     requires { length text.now < 2 ^ 32 }
-    ensures { result ≢ Refused.Memory → result ≡ spec.deep_refusal text.now lexemes.now left }
+    ensures value { result ≢ Refused.Memory → result ≡ spec.deep_refusal text.now lexemes.now left }
+    ensures code { spec.IsGrammarRefusal result }
 {
     let before = lexemes.len().saturating_sub(left);
     let front = &lexemes[..(before + 1).min(lexemes.len())];

@@ -1,4 +1,5 @@
-//! Sets of states of a small model as decision diagrams, built by splitting on each variable in turn, and their cubes.
+//! Sets of states of a small model as decision diagrams, built by splitting on each variable in turn; the cubes of its
+//! initial states; and the verdict of one `AG p`.
 #![tactic(auto)]
 
 mod cubes;

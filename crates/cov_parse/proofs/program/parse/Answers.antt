@@ -32,4 +32,4 @@ pub returns-in-Err-program-clause-only : goal.returns-in-Err-program-clause-only
 returns-in-Err-program-clause-only c = λ p reads shallow.
     let names_are = c.in_ok-names.ensures.0 ∙ ap (names_of c.args.text.now) c.as_slice.ensures in
     let lexemes_are = c.as_slice-lexemes.ensures ∙ c.in_ok-names.ensures.1 ∙ ap (lexemes_of c.args.text.now) c.as_slice.ensures in
-    rw (c.refused.ensures, no_fault c.args.text.now c.args.tokens.now c.in_ok-names.names c.as_slice-lexemes.result.now names_are lexemes_are c.in-Err-program.error c.in-Err-program.ensures p reads) refl
+    rw (c.refused.ensures.value, no_fault c.args.text.now c.args.tokens.now c.in_ok-names.names c.as_slice-lexemes.result.now names_are lexemes_are c.in-Err-program.error c.in-Err-program.ensures p reads) refl

@@ -1,0 +1,99 @@
+use crate::runs::{Given, expect};
+use std::test::Fail;
+
+const USAGE: &str = "usage: covsmv COMMAND MODEL [SIGNAL..] [OPTIONS]\n";
+
+#[test]
+fn initial_states(rt: HostRuntime) -> Result<(), Fail> {
+    for (model, report) in [
+        ("MODULE main VAR", "initial\n  all\n"),
+        (
+            "MODULE main VAR a : boolean; INIT a & !a",
+            "initial\n  none\n",
+        ),
+        (
+            "MODULE main VAR a : boolean; b : boolean; INIT !(a & b)",
+            "initial\n  a=FALSE\n  a=TRUE,b=FALSE\n",
+        ),
+        (
+            "MODULE main VAR a : boolean; b : boolean; INIT a INIT b;",
+            "initial\n  a=TRUE,b=TRUE\n",
+        ),
+        (
+            "MODULE main VAR a : boolean; b : boolean; INIT a | b & !a",
+            "initial\n  a=FALSE,b=TRUE\n  a=TRUE\n",
+        ),
+        (
+            "MODULE main -- a comment\nVAR c : boolean;\r\n\tINIT TRUE",
+            "initial\n  all\n",
+        ),
+    ] {
+        expect(
+            &rt,
+            rt.alloc(),
+            Given::of(&["init", "M"], model),
+            0,
+            report,
+            "",
+        )?;
+    }
+    Ok(())
+}
+
+#[test]
+fn words_that_are_no_job(rt: HostRuntime) -> Result<(), Fail> {
+    let none: [&str; 0] = [];
+    let model = "MODULE main VAR";
+    for words in [
+        none.as_slice(),
+        ["init"].as_slice(),
+        ["frob", "M"].as_slice(),
+        ["init", "-M"].as_slice(),
+        ["init", "M", "N"].as_slice(),
+        ["--help"].as_slice(),
+    ] {
+        expect(&rt, rt.alloc(), Given::of(words, model), 2, "", USAGE)?;
+    }
+    Ok(())
+}
+
+#[test]
+fn texts_with_a_fault(rt: HostRuntime) -> Result<(), Fail> {
+    for (model, line) in [
+        ("", "model: Syntax at 1:1\n"),
+        ("MODULE main ?", "model: BadByte at 1:13\n"),
+        ("MODULE main VAR a boolean;", "model: Syntax at 1:19\n"),
+        (
+            "MODULE main\nINIT 1000001 = 1",
+            "model: RangeTooWide at 2:6\n",
+        ),
+        (
+            "MODULE main INIT 1000001 = 1",
+            "model: RangeTooWide at 1:18\n",
+        ),
+        (
+            "MODULE main FROZENVAR a : boolean;",
+            "model: LeftOut at 1:13 FROZENVAR\n",
+        ),
+        ("MODULE main VAR a : {x, y};", "model: NotBuilt at 1:1\n"),
+        (
+            "MODULE main VAR a : boolean; a : boolean;",
+            "model: NotBuilt at 1:1\n",
+        ),
+        (
+            "MODULE main VAR a : boolean; INIT b",
+            "model: NotBuilt at 1:1\n",
+        ),
+        ("MODULE m VAR a : boolean;", "model: NotBuilt at 1:1\n"),
+    ] {
+        expect(
+            &rt,
+            rt.alloc(),
+            Given::of(&["init", "M"], model),
+            3,
+            "",
+            line,
+        )?;
+    }
+    Ok(())
+}

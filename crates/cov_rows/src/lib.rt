@@ -1,0 +1,13 @@
+//! Whole runs over files and sinks in memory: what the program reads, reports and tells.
+#![tactic(auto)]
+
+#[cfg(test)]
+mod check;
+#[cfg(test)]
+mod failures;
+#[cfg(test)]
+mod init;
+#[cfg(test)]
+mod readings;
+#[cfg(test)]
+mod runs;

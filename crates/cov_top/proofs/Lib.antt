@@ -1,0 +1,4 @@
+pub mod RunLemmas
+pub mod PositionLemmas
+pub mod TransferLemmas
+pub mod ShowLemmas

@@ -1,0 +1,33 @@
+-- The one line on the error stream.
+use Rattle.std.specs.Prelude.{ℕ, ◌⊎◌, List, [], ◌++◌, codes, decimal, Option, None, Some}
+use Rattle.cov_syntax.specs.declared.words.Word.{Word}
+use Rattle.cov_syntax.specs.Words.{word_spelling}
+use Rattle.cov_syntax.specs.Faults.{name_of}
+use Rattle.cov_io.specs.Outside.{Rose, Gains}
+use Rattle.cov_top.specs.Transfer.{GainsPart}
+use Rattle.cov_top.specs.declared.status.Status.{Status}
+use Rattle.cov_top.specs.declared.status.Status.TheVariants.{Done, Fails, Words, Input, Read, Write, Memory}
+use Rattle.cov_top.specs.declared.status.InputFault.TheVariants.{Model}
+
+-- a space and a word, where there is one
+abbrev pub behind_space : Option Word → List ℕ
+behind_space None = []
+behind_space (Some w) = codes " " ++ word_spelling w
+
+-- the line on a fault of a model, by its code, the line and column of its place, and the left-out word there
+abbrev pub model_line : ℕ → ℕ → ℕ → Option Word → List ℕ
+model_line code line column word = codes "model: " ++ name_of code ++ codes " at " ++ decimal line ++ codes ":" ++ decimal column ++ behind_space word ++ codes "\n"
+
+-- the line of a status; the line, the column and the word count where a model's fault is told
+abbrev pub error_line : Status → ℕ → ℕ → Option Word → List ℕ
+error_line Done line column word = []
+error_line Fails line column word = []
+error_line Words line column word = codes "usage: covsmv COMMAND MODEL [SIGNAL..] [OPTIONS]\n"
+error_line (Input (Model f)) line column word = model_line f.code line column word
+error_line Read line column word = codes "read failed\n"
+error_line Write line column word = codes "write failed\n"
+error_line Memory line column word = codes "out of memory\n"
+
+-- the line was put, or a front of it where the sink failed
+abbrev pub PutsLine : Option (List ℕ) → Option (List ℕ) → ℕ → ℕ → List ℕ → Type 0
+PutsLine old new before now line = Gains old new line ⊎ (Rose before now × GainsPart old new line)

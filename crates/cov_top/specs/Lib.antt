@@ -1,0 +1,12 @@
+pub mod ErrorLine
+pub mod Position
+pub mod Reading
+pub mod Refusal
+pub mod Report
+pub mod Run
+pub mod Show
+pub mod ShowBooleans
+pub mod ShowExprs
+pub mod Status
+pub mod Transfer
+pub mod Words

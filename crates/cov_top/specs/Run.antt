@@ -1,0 +1,68 @@
+-- What a run of the program reads, reports and tells.
+use Rattle.std.specs.Prelude.{◌≡◌, ℕ, Bool, true, List, Option, Some, None}
+use Rattle.cov_io.specs.Outside.{Table, file_of, IsFile}
+use Rattle.cov_small.specs.declared.model.SmallModel.{SmallModel}
+use Rattle.cov_top.specs.Reading.{IsSmallText, IsNoSmallText, IsTextFault}
+use Rattle.cov_syntax.specs.declared.words.Word.{Word}
+use Rattle.cov_top.specs.Position.{line_of, column_of, told_word}
+use Rattle.cov_top.specs.Report.{init_report, IsCheckReport}
+use Rattle.cov_top.specs.Words.{model_name}
+use Rattle.cov_top.specs.declared.words.Job.{Job}
+use Rattle.cov_top.specs.declared.words.Job.TheVariants.{Init, Check}
+use Rattle.cov_top.specs.declared.status.Status.{Status}
+use Rattle.cov_top.specs.declared.status.Status.TheVariants.{Input}
+use Rattle.cov_top.specs.declared.status.InputFault.{InputFault}
+use Rattle.cov_top.specs.declared.status.InputFault.TheVariants.{Model}
+
+-- the bytes are those of the file that the job names, where files are told
+abbrev pub IsModelFile : Option Table → Option Job → List ℕ → Type 0
+IsModelFile told None bytes = ⊥
+IsModelFile told (Some j) bytes = IsFile told (model_name j) (Some bytes)
+
+-- files are told, and the one that the job names is not among them
+abbrev pub IsMissing : Option Table → Option Job → Type 0
+IsMissing told None = ⊥
+IsMissing None (Some j) = ⊥
+IsMissing (Some files) (Some j) = file_of files (model_name j) ≡ None
+
+-- files are told, and the bytes of the one that the job names are no small text
+abbrev pub IsRefusedFile : Option Table → Option Job → Type 0
+IsRefusedFile told None = ⊥
+IsRefusedFile None (Some j) = ⊥
+IsRefusedFile (Some files) (Some j) = (bytes : List ℕ) × (file_of files (model_name j) ≡ Some bytes) × IsNoSmallText bytes
+
+-- the whole report of a job on a model, and whether what it judges passes
+abbrev pub IsReportOn : Job → SmallModel → Bool → List ℕ → Type 0
+IsReportOn (Init name) m passes text = (passes ≡ true) × (text ≡ init_report m)
+IsReportOn (Check name) m passes text = IsCheckReport m passes text
+
+-- the text is the report on the model that the whole file of the job is read as
+pub record IsReport (told : Option Table) (j : Job) (passes : Bool) (text : List ℕ) : Type 0 where
+  pub bytes : List ℕ
+  pub model : SmallModel
+  pub file : IsFile told (model_name j) (Some bytes)
+  pub reads : IsSmallText bytes model
+  pub is : IsReportOn j model passes text
+
+-- the words ask for a job, and the text is its report
+abbrev pub IsJobReport : Option Table → Option Job → Bool → List ℕ → Type 0
+IsJobReport told None passes text = ⊥
+IsJobReport told (Some j) passes text = IsReport told j passes text
+
+-- files are told, and the bytes of the one that the job names are a small text
+abbrev pub IsAcceptedFile : Option Table → Option Job → Type 0
+IsAcceptedFile told None = ⊥
+IsAcceptedFile None (Some j) = ⊥
+IsAcceptedFile (Some files) (Some j) = (bytes : List ℕ) × (m : SmallModel) × (file_of files (model_name j) ≡ Some bytes) × IsSmallText bytes m
+
+-- the whole file of the job has this fault, where files are told
+abbrev pub IsInputFault : Option Table → Option Job → InputFault → Type 0
+IsInputFault told None f = ⊥
+IsInputFault None (Some j) f = Unit {0}
+IsInputFault (Some files) (Some j) (Model f) = (bytes : List ℕ) × (file_of files (model_name j) ≡ Some bytes) × IsTextFault bytes f
+
+-- the line and the column of the place of a status' fault in the file of the job, and the word that is told there
+abbrev pub IsPlace : Option Table → Option Job → Status → ℕ → ℕ → Option Word → Type 0
+IsPlace told j (Input (Model f)) line column word =
+    (bytes : List ℕ) × IsModelFile told j bytes × (line ≡ line_of bytes f.place.start) × (column ≡ column_of bytes f.place.start) × (word ≡ told_word bytes f)
+IsPlace told j _ line column word = Unit {0}

@@ -1,0 +1,87 @@
+ghost use Rattle.std.specs.Prelude.{◌≡◌, ◌≤◌, ◌+◌, ◌++◌, length};
+ghost use Rattle.cov_syntax.specs.Words.{word_spelling};
+ghost use Rattle.arrayvec.specs.ArrayString.{array_string_len};
+ghost use Rattle.cov_top.specs.ErrorLine.{behind_space, error_line, model_line, PutsLine};
+
+use crate::position::Position;
+use crate::status::{InputFault, Status};
+use crate::transfer::put_all;
+use arrayvec::ArrayString;
+use cov_io::Sink;
+use cov_syntax::{ModelFault, Word};
+use itoa::Buffer;
+
+/// Room for the longest line.
+const LINE: usize = 80;
+
+/// The spelling of a reserved word, which is short.
+fn spelling(word: Word) -> &'static str
+    ensures is { result.now ≡ word_spelling word }
+    ensures short { length result.now ≤ 10 }
+{
+    word.spelling()
+}
+
+/// Puts a space and a word last, where there is one.
+fn put_word(line: &mut ArrayString<LINE>, word: Option<Word>)
+    requires { array_string_len line.old + 11 ≤ 80 }
+    ensures bytes { line.new.bytes ≡ line.old.bytes ++ behind_space word }
+    ensures short { array_string_len line.new ≤ array_string_len line.old + 11 }
+{
+    match word {
+        Some(word) => {
+            line.push_str(" ");
+            line.push_str(spelling(word));
+        }
+        None => {}
+    }
+}
+
+/// The line on a fault of a model, with its position and the word that is told.
+fn model_line(fault: ModelFault, position: Position, word: Option<Word>) -> ArrayString<LINE>
+    ensures { result.bytes ≡ model_line fault.code position.line position.column word }
+{
+    let mut buffer = Buffer::new();
+    let mut line = ArrayString::new();
+    line.push_str("model: ");
+    line.push_str(fault.name());
+    line.push_str(" at ");
+    line.push_str(buffer.format(position.line));
+    line.push_str(":");
+    line.push_str(buffer.format(position.column));
+    put_word(&mut line, word);
+    line.push_str("\n");
+    line
+}
+
+/// The line of a status above 1, and nothing for any other.
+fn line_of_status(status: Status, position: Position, word: Option<Word>) -> ArrayString<LINE>
+    ensures { result.bytes ≡ error_line status position.line position.column word }
+{
+    let text = match status {
+        Status::Done | Status::Fails => "",
+        Status::Words => "usage: covsmv COMMAND MODEL [SIGNAL..] [OPTIONS]\n",
+        Status::Input(InputFault::Model(fault)) => return model_line(fault, position, word),
+        Status::Read => "read failed\n",
+        Status::Write => "write failed\n",
+        Status::Memory => "out of memory\n",
+    };
+    let mut line = ArrayString::new();
+    line.push_str(text);
+    line
+}
+
+/// Puts the one line of a status above 1, or a front of it where the sink fails. It takes no memory.
+pub(crate) fn put_error_line<E: Sink>(
+    err: &mut E,
+    status: Status,
+    position: Position,
+    word: Option<Word>,
+)
+    ensures line { PutsLine (E.wrote err.old) (E.wrote err.new) (E.faults err.old) (E.faults err.new) (error_line status position.line position.column word) }
+    ensures later { E.faults err.old ≤ E.faults err.new }
+{
+    let line = line_of_status(status, position, word);
+    // What the error stream refuses can be told nowhere else.
+    let _ = put_all(err, line.as_str().as_bytes());
+}

@@ -1,0 +1,16 @@
+//! The top call: words and files in, a report and a status out.
+#![tactic(auto)]
+
+mod error_line;
+mod position;
+mod program;
+mod reading;
+mod report;
+mod show;
+mod show_expr;
+mod status;
+mod transfer;
+mod words;
+
+pub use program::run;
+pub use status::{InputFault, Status};

@@ -1,0 +1,181 @@
+ghost use Rattle.std.specs.Prelude.{◌≡◌, ◌≢◌, ◌≤◌, ℕ, Bool, true, false, List, ◌<◌, ◌^◌, ◌⊎◌, length, Option, None, Some, IfOk, IfErr};
+ghost use Rattle.cov_io.specs.Outside.{Rose, Gains};
+ghost use Rattle.cov_top.specs.ErrorLine.{error_line, PutsLine};
+ghost use Rattle.cov_top.specs.Run.{IsInputFault, IsJobReport, IsAcceptedFile, IsMissing, IsPlace, IsRefusedFile, IsReportOn};
+ghost use Rattle.cov_top.specs.Refusal.{IsRefusal, IsUnread, file_too_long};
+ghost use Rattle.cov_top.specs.Transfer.{GainsPart};
+ghost use Rattle.cov_top.specs.Words.{job};
+
+use crate::error_line::put_error_line;
+use crate::position::{Position, position_of, told_word};
+use crate::reading::read_model;
+use crate::report::{Report, check_report, init_report};
+use crate::status::{InputFault, Status};
+use crate::transfer::{ReadFault, put_all, read_file};
+use crate::words::{Job, WordsFault, read_words};
+use cov_io::{Files, Sink};
+use cov_small::SmallModel;
+use cov_syntax::{FaultKind, NoMemory, Refused, Span, Word};
+use std::alloc::Global;
+
+/// The most bytes of a model's text.
+const LIMIT: u32 = 1_048_576;
+
+/// Why there is no report, with the place of a model's fault and the word that is told there.
+#[derive(Clone, Copy, Debug)]
+pub(crate) struct Refusal {
+    pub(crate) status: Status,
+    pub(crate) position: Position,
+    pub(crate) word: Option<Word>,
+}
+
+/// The start of a text.
+const START: Position = Position { line: 1, column: 1 };
+
+fn refuse(status: Status) -> Refusal
+    ensures { result ≡ record { status = status; position = record { line = 1; column = 1 }; word = None } }
+{
+    Refusal {
+        status,
+        position: START,
+        word: None,
+    }
+}
+
+/// The refusal of a text that has more bytes than the limit.
+fn too_long() -> Refusal
+    ensures { result ≡ record { status = Status.Input (InputFault.Model file_too_long); position = record { line = 1; column = 1 }; word = None } }
+{
+    refuse(Status::Input(InputFault::Model(FaultKind::FileTooLong.at(Span { start: 0, stop: 0 }))))
+}
+
+/// The refusal of a text that is read as no model.
+fn unread(text: &[u8], refused: Refused) -> Refusal
+    requires { length text.now < 2 ^ 31 }
+    ensures { IsUnread text.now refused result }
+{
+    match refused {
+        Refused::Fault(fault) => Refusal {
+            status: Status::Input(InputFault::Model(fault)),
+            position: position_of(text, fault.place.start as usize),
+            word: told_word(text, fault),
+        },
+        Refused::Memory => refuse(Status::Memory),
+    }
+}
+
+/// The report of a job.
+fn report_on<F: Files>(alloc: Global, files: &mut F, job: &Job) -> Result<Report, Refusal>
+    ensures ok { IfOk result (λ r. IsJobReport (F.told files.old) (Some job.now) r.passes r.text) }
+    ensures err { IfErr result (λ r. IsRefusal (F.told files.old) (F.faults files.old) (F.faults files.new) (Some job.now) r) }
+    ensures later { F.faults files.old ≤ F.faults files.new }
+{
+    let text = match read_file(alloc, files, job.model(), LIMIT) {
+        Ok(text) => text,
+        Err(ReadFault::Failed) => return Err(refuse(Status::Read)),
+        Err(ReadFault::TooLong) => return Err(too_long()),
+        Err(ReadFault::Memory) => return Err(refuse(Status::Memory)),
+    };
+    let model = match read_model(alloc, text.as_slice()) {
+        Ok(model) => model,
+        Err(refused) => return Err(unread(text.as_slice(), refused)),
+    };
+    match report(alloc, job, &model) {
+        Ok(report) => Ok(report),
+        Err(NoMemory) => Err(refuse(Status::Memory)),
+    }
+}
+
+/// The report of a job on a model.
+fn report(alloc: Global, job: &Job, model: &SmallModel) -> Result<Report, NoMemory>
+    requires { length model.now.names ≤ 6 }
+    ensures { IfOk result (λ r. IsReportOn job.now model.now r.passes r.text) }
+{
+    match job {
+        Job::Init { model: _ } => init_report(alloc, model),
+        Job::Check { model: _ } => check_report(alloc, model),
+    }
+}
+
+/// The report of the words' job, made whole before any of it is put.
+fn report_of<F: Files>(alloc: Global, words: &[String], files: &mut F) -> Result<Report, Refusal>
+    ensures ok { IfOk result (λ r. IsJobReport (F.told files.old) (job words.now) r.passes r.text) }
+    ensures err { IfErr result (λ r. IsRefusal (F.told files.old) (F.faults files.old) (F.faults files.new) (job words.now) r) }
+    ensures later { F.faults files.old ≤ F.faults files.new }
+{
+    match read_words(alloc, words) {
+        Ok(job) => report_on(alloc, files, &job),
+        Err(WordsFault::Words) => Err(refuse(Status::Words)),
+        Err(WordsFault::Memory) => Err(refuse(Status::Memory)),
+    }
+}
+
+/// Puts the whole report, or the line of a failed write.
+fn put_report<O: Sink, E: Sink>(out: &mut O, err: &mut E, report: &Report) -> Status
+    ensures done { result ≡ Status.Done → (report.now.passes ≡ true) × Gains (O.wrote out.old) (O.wrote out.new) report.now.text × (E.wrote err.new ≡ E.wrote err.old) }
+    ensures fails { result ≡ Status.Fails → (report.now.passes ≡ false) × Gains (O.wrote out.old) (O.wrote out.new) report.now.text × (E.wrote err.new ≡ E.wrote err.old) }
+    ensures part { result ≡ Status.Write → GainsPart (O.wrote out.old) (O.wrote out.new) report.now.text × Rose (O.faults out.old) (O.faults out.new) }
+    ensures line { result ≡ Status.Write → PutsLine (E.wrote err.old) (E.wrote err.new) (E.faults err.old) (E.faults err.new) (error_line Status.Write 1 1 None) }
+    ensures which { (result ≡ Status.Done) ⊎ ((result ≡ Status.Fails) ⊎ (result ≡ Status.Write)) }
+    ensures out_later { O.faults out.old ≤ O.faults out.new }
+    ensures err_later { E.faults err.old ≤ E.faults err.new }
+{
+    match put_all(out, report.text.as_slice()) {
+        Ok(()) if report.passes => Status::Done,
+        Ok(()) => Status::Fails,
+        Err(_) => {
+            put_error_line(err, Status::Write, START, None);
+            Status::Write
+        }
+    }
+}
+
+/// Does all that the program does: reads the file of the words' job, and puts its report, or else the
+/// one line that says why there is none.
+pub fn run<F: Files, O: Sink, E: Sink>(
+    alloc: Global,
+    words: &[String],
+    files: &mut F,
+    out: &mut O,
+    err: &mut E,
+) -> Status
+    // What was put.
+    ensures done { result ≡ Status.Done → (text : List ℕ) × IsJobReport (F.told files.old) (job words.now) true text
+        × Gains (O.wrote out.old) (O.wrote out.new) text }
+    ensures fails { result ≡ Status.Fails → (text : List ℕ) × IsJobReport (F.told files.old) (job words.now) false text
+        × Gains (O.wrote out.old) (O.wrote out.new) text }
+    ensures part { result ≡ Status.Write → (passes : Bool) × (text : List ℕ) × IsJobReport (F.told files.old) (job words.now) passes text
+        × GainsPart (O.wrote out.old) (O.wrote out.new) text }
+    ensures nothing { result ≢ Status.Done → result ≢ Status.Fails → result ≢ Status.Write → O.wrote out.new ≡ O.wrote out.old }
+
+    // What was told on the error stream.
+    ensures quiet { (result ≡ Status.Done) ⊎ (result ≡ Status.Fails) → E.wrote err.new ≡ E.wrote err.old }
+    ensures line { result ≢ Status.Done → result ≢ Status.Fails → (line : ℕ) × (column : ℕ) × (word : Option Word)
+        × IsPlace (F.told files.old) (job words.now) result line column word
+        × PutsLine (E.wrote err.old) (E.wrote err.new) (E.faults err.old) (E.faults err.new) (error_line result line column word) }
+
+    // The cause of each status. Want of memory is free.
+    ensures words { result ≡ Status.Words → job words.now ≡ None }
+    ensures input { (f : InputFault) → result ≡ Status.Input f → IsInputFault (F.told files.old) (job words.now) f }
+    ensures read { result ≡ Status.Read → Rose (F.faults files.old) (F.faults files.new) ⊎ IsMissing (F.told files.old) (job words.now) }
+    ensures write { result ≡ Status.Write → Rose (O.faults out.old) (O.faults out.new) }
+
+    // What can be answered nothing else.
+    ensures no_job { job words.now ≡ None → (result ≡ Status.Words) ⊎ (result ≡ Status.Memory) }
+    ensures missing { IsMissing (F.told files.old) (job words.now) → (result ≡ Status.Read) ⊎ (result ≡ Status.Memory) }
+    ensures accepted { IsAcceptedFile (F.told files.old) (job words.now) → (f : InputFault) → result ≢ Status.Input f }
+    ensures refused { IsRefusedFile (F.told files.old) (job words.now) → (result ≢ Status.Done) × (result ≢ Status.Fails) × (result ≢ Status.Write) }
+
+    // Counts never fall.
+    ensures files_later { F.faults files.old ≤ F.faults files.new }
+    ensures out_later { O.faults out.old ≤ O.faults out.new }
+    ensures err_later { E.faults err.old ≤ E.faults err.new }
+{
+    match report_of(alloc, words, files) {
+        Ok(report) => put_report(out, err, &report),
+        Err(refusal) => {
+            put_error_line(err, refusal.status, refusal.position, refusal.word);
+            refusal.status
+        }
+    }
+}

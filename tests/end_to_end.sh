@@ -1,0 +1,85 @@
+#!/usr/bin/env bash
+# Runs the program that the gate built on real files and streams. The last line counts the cases.
+set -u
+cd "$(dirname "$0")/.."
+program="$PWD/crates/covsmv/out/covsmv"
+place=$(mktemp -d)
+trap 'rm -rf "$place"' EXIT
+passed=0
+failed=0
+
+# expect NAME STATUS OUT ERR WORD..: the program, with these words, ends and writes so.
+expect() {
+    local name=$1 status=$2 out=$3 err=$4
+    shift 4
+    (cd "$place" && "$program" "$@") >"$place/.out" 2>"$place/.err" </dev/null
+    judge "$name" "$status" "$?" "$out" "$err"
+}
+
+# judge NAME WANTED FOUND OUT ERR: compares a status, and what was written.
+judge() {
+    if [ "$2" = "$3" ] && printf '%b' "$4" | cmp -s - "$place/.out" && printf '%b' "$5" | cmp -s - "$place/.err"; then
+        passed=$((passed + 1))
+    else
+        failed=$((failed + 1))
+        echo "failed: $1: status $3, where $2 is wanted"
+        diff <(printf '%b' "$4") "$place/.out"
+        diff <(printf '%b' "$5") "$place/.err"
+    fi
+}
+
+[ -x "$program" ] || { echo "there is no $program: run rt ci, or ./covsmv once"; echo "0 passed, 1 failed"; exit 1; }
+
+printf 'MODULE main\nVAR a : boolean; b : boolean;\nINIT !(a & b)\n' >"$place/model"
+head -c 4097 /dev/zero | tr '\0' ' ' >"$place/long"
+head -c 1048577 /dev/zero | tr '\0' ' ' >"$place/longer"
+printf 'MODULE main INIT %s' "$(printf '%129s' '' | tr ' ' '(')" >"$place/open"
+: >"$place/empty"
+mkdir "$place/folder"
+usage='usage: covsmv COMMAND MODEL [SIGNAL..] [OPTIONS]\n'
+
+expect 'a model' 0 'initial\n  a=FALSE\n  a=TRUE,b=FALSE\n' '' init model
+printf 'MODULE main VAR q : boolean; INIT !q TRANS next(q) & !q | !next(q) & q SPEC AG !q' >"$place/toggle"
+printf 'MODULE main VAR q : boolean; TRANS FALSE SPEC AG q' >"$place/blocked"
+deep() { printf 'MODULE main VAR q : boolean; INIT '; printf "%${1}s" '' | tr ' ' '('; printf "%${2}s" '' | tr ' ' '!'; printf q; printf "%${1}s" '' | tr ' ' ')'; }
+deep 128 1000 >"$place/deep"
+deep 129 0 >"$place/deeper"
+expect 'a property that passes' 0 'no fair initial state\nspec 1 passes: AG q\n' '' check blocked
+expect 'a property that fails' 1 'spec 1 fails: AG !q\n' '' check toggle
+expect 'the deepest expression' 0 'initial\n  q=TRUE\n' '' init deep
+expect 'an expression that is too deep' 3 '' 'model: TooDeep at 1:163\n' init deeper
+expect 'too many open brackets' 3 '' 'model: TooDeep at 1:146\n' init open
+expect 'an empty file to check' 3 '' 'model: Syntax at 1:1\n' check empty
+expect 'an empty file' 3 '' 'model: Syntax at 1:1\n' init empty
+expect 'a file of blanks' 3 '' 'model: Syntax at 1:4098\n' init long
+expect 'a file that is too long' 3 '' 'model: FileTooLong at 1:1\n' init longer
+expect 'a missing file' 4 '' 'read failed\n' init missing
+expect 'a folder' 4 '' 'read failed\n' init folder
+expect 'no words' 2 '' "$usage"
+expect 'one word' 2 '' "$usage" init
+expect 'an unknown command' 2 '' "$usage" frob model
+expect 'a word that is not UTF-8' 2 '' '' init "$(printf '\377')"
+
+# Six variables of which an odd number is true: each of the 32 states is a cube of its own.
+odd() { printf '(%s) & !(%s) | !(%s) & (%s)' "$1" "$2" "$1" "$2"; }
+parity=a
+for name in b c d e f; do parity=$(odd "$parity" "$name"); done
+printf 'MODULE main VAR a : boolean; b : boolean; c : boolean; d : boolean; e : boolean; f : boolean; INIT %s' "$parity" >"$place/parity"
+(cd "$place" && "$program" init parity) >"$place/.out" 2>"$place/.err"
+status=$?
+lines=$(grep -c '^  a=[A-Z]*,b=[A-Z]*,c=[A-Z]*,d=[A-Z]*,e=[A-Z]*,f=[A-Z]*$' "$place/.out")
+printf '%s\n' "$lines" >"$place/.out"
+judge 'a parity of six variables' 0 "$status" '32\n' ''
+
+(cd "$place" && "$program" init model) >&- 2>"$place/.err"
+status=$?
+: >"$place/.out"
+judge 'standard output closed' 5 "$status" '' 'write failed\n'
+
+(cd "$place" && "$program" init missing) >"$place/.out" 2>&-
+status=$?
+: >"$place/.err"
+judge 'standard error closed' 4 "$status" '' ''
+
+echo "$passed passed, $failed failed"
+[ "$failed" -eq 0 ]
