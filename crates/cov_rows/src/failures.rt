@@ -33,13 +33,20 @@ fn a_missing_file_and_failing_reads(rt: HostRuntime) -> Result<(), Fail> {
 #[test]
 fn one_byte_a_put(rt: HostRuntime) -> Result<(), Fail> {
     let words = ["init", "M"];
-    for failing_put in 1..36 {
+    for (failing_put, put) in [
+        (1, ""),
+        (2, "i"),
+        (8, "initial"),
+        (9, "initial\n"),
+        (18, "initial\n  a=FALSE"),
+        (20, "initial\n  a=FALSE\n "),
+        (35, "initial\n  a=FALSE\n  a=TRUE,b=FALSE"),
+    ] {
         let given = Given {
             most: 1,
             failing_put,
             ..Given::of(&words, MODEL)
         };
-        let put = &REPORT[..failing_put as usize - 1];
         expect(&rt, rt.alloc(), given, 5, put, "write failed\n")?;
     }
     let given = Given {

@@ -44,17 +44,12 @@ fn initial_states(rt: HostRuntime) -> Result<(), Fail> {
 fn words_that_are_no_job(rt: HostRuntime) -> Result<(), Fail> {
     let none: [&str; 0] = [];
     let model = "MODULE main VAR";
-    for words in [
-        none.as_slice(),
-        ["init"].as_slice(),
-        ["frob", "M"].as_slice(),
-        ["init", "-M"].as_slice(),
-        ["init", "M", "N"].as_slice(),
-        ["--help"].as_slice(),
-    ] {
-        expect(&rt, rt.alloc(), Given::of(words, model), 2, "", USAGE)?;
-    }
-    Ok(())
+    expect(&rt, rt.alloc(), Given::of(&none, model), 2, "", USAGE)?;
+    expect(&rt, rt.alloc(), Given::of(&["init"], model), 2, "", USAGE)?;
+    expect(&rt, rt.alloc(), Given::of(&["frob", "M"], model), 2, "", USAGE)?;
+    expect(&rt, rt.alloc(), Given::of(&["init", "-M"], model), 2, "", USAGE)?;
+    expect(&rt, rt.alloc(), Given::of(&["init", "M", "N"], model), 2, "", USAGE)?;
+    expect(&rt, rt.alloc(), Given::of(&["--help"], model), 2, "", USAGE)
 }
 
 #[test]
