@@ -51,6 +51,31 @@ expect 'a property that fails' 1 'spec 1 fails: AG !q\n' '' check toggle
 expect 'the deepest expression' 0 'initial\n  q=TRUE\n' '' init deep
 expect 'an expression that is too deep' 3 '' 'model: TooDeep at 1:163\n' init deeper
 expect 'too many open brackets' 3 '' 'model: TooDeep at 1:146\n' init open
+cat >"$place/clients" <<'END'
+MODULE main
+VAR t : 1..3;
+    a : client(t = 1); b : client(t = 2); c : client(t = 3);
+ASSIGN init(t) := 1; next(t) := case t = 3 : 1; 1 : t + 1; esac;
+FAIRNESS a.asks
+FAIRNESS b.asks
+SPEC AG !(a.holds & b.holds)
+SPEC AG (a.asks -> AF a.holds)
+SPEC AG (a.holds -> AX !a.holds)
+SPEC AG AF b.holds
+MODULE client(grant)
+VAR state : {idle, ask, use};
+DEFINE asks := state = ask; holds := state = use;
+ASSIGN init(state) := idle;
+  next(state) := case
+    state = idle : {idle, ask};
+    state = ask & grant : use;
+    state = use : idle;
+    1 : state;
+  esac;
+END
+expect 'a model of several modules is read' 3 '' 'model: NotBuilt at 1:1\n' check clients
+sed 's/esac;$/esac/' "$place/clients" >"$place/unended"
+expect 'a model of several modules with a fault' 3 '' 'model: Syntax at 5:1\n' check unended
 expect 'an empty file to check' 3 '' 'model: Syntax at 1:1\n' check empty
 expect 'an empty file' 3 '' 'model: Syntax at 1:1\n' init empty
 expect 'a file of blanks' 3 '' 'model: Syntax at 1:4098\n' init long
