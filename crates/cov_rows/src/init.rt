@@ -46,9 +46,30 @@ fn words_that_are_no_job(rt: HostRuntime) -> Result<(), Fail> {
     let model = "MODULE main VAR";
     expect(&rt, rt.alloc(), Given::of(&none, model), 2, "", USAGE)?;
     expect(&rt, rt.alloc(), Given::of(&["init"], model), 2, "", USAGE)?;
-    expect(&rt, rt.alloc(), Given::of(&["frob", "M"], model), 2, "", USAGE)?;
-    expect(&rt, rt.alloc(), Given::of(&["init", "-M"], model), 2, "", USAGE)?;
-    expect(&rt, rt.alloc(), Given::of(&["init", "M", "N"], model), 2, "", USAGE)?;
+    expect(
+        &rt,
+        rt.alloc(),
+        Given::of(&["frob", "M"], model),
+        2,
+        "",
+        USAGE,
+    )?;
+    expect(
+        &rt,
+        rt.alloc(),
+        Given::of(&["init", "-M"], model),
+        2,
+        "",
+        USAGE,
+    )?;
+    expect(
+        &rt,
+        rt.alloc(),
+        Given::of(&["init", "M", "N"], model),
+        2,
+        "",
+        USAGE,
+    )?;
     expect(&rt, rt.alloc(), Given::of(&["--help"], model), 2, "", USAGE)
 }
 
