@@ -1,0 +1,6 @@
+pub mod Pairs
+pub mod Calls
+pub mod Leading
+pub mod Turning
+pub mod Operating
+pub mod Rising
