@@ -1,5 +1,6 @@
 pub mod Accepted
 pub mod Atoms
+pub mod Flat
 pub mod Kinds
 pub mod Laws
 pub mod Machine

@@ -1,4 +1,5 @@
 ghost use Rattle.std.specs.Prelude.{◌≡◌, ◌≢◌, [], ◌∷◌, ◌++◌, ◌<◌, ◌^◌, ◌-◌, length, slice_get, IfOk, OnOk, OnErr, IfSome, IfNone, Contains, All};
+ghost use Rattle.cov_syntax.specs.Texts.{IsDistinctTexts};
 
 use crate::error::NoMemory;
 use crate::seq::Seq;
@@ -44,6 +45,7 @@ impl Names {
     pub fn len(&self) -> u32
         ensures value { result ≡ length self.now }
         ensures bound { length self.now < 2 ^ 32 }
+        ensures distinct { IsDistinctTexts self.now }
     {
         self.texts.len() as u32
     }
