@@ -1,0 +1,10 @@
+pub mod AmountLemmas
+pub mod FirstLemmas
+pub mod HasLemmas
+pub mod LawLemmas
+pub mod ModuleLemmas
+pub mod NameLemmas
+pub mod RankLemmas
+pub mod ReachLemmas
+pub mod SizeLemmas
+pub mod WalkLemmas

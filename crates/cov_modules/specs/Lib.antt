@@ -1,0 +1,12 @@
+pub mod Conditions
+pub mod Counts
+pub mod FlatLists
+pub mod Flatten
+pub mod ModuleFaults
+pub mod Modules
+pub mod NameFaults
+pub mod Names
+pub mod Ranks
+pub mod Sizes
+pub mod Things
+pub mod Walk
