@@ -48,7 +48,8 @@ fn name_text(names: &Names, i: u32) -> &[u8]
     if i < names.len() { names.text(i) } else { b"" }
 }
 
-fn show_name(names: &Names, i: u32, into: &mut Text) -> Result<(), NoMemory>
+/// The name with this number, or nothing where there is none.
+pub fn show_name(names: &Names, i: u32, into: &mut Text) -> Result<(), NoMemory>
     ensures { OnOk result (into.new ≡ into.old ++ slice_index_or names.now i []) }
 {
     into.extend_from_slice(name_text(names, i))

@@ -1,6 +1,7 @@
-//! The printed texts of expressions.
+//! The printed texts of expressions and of cubes.
 #![tactic(auto)]
 
+mod cube;
 mod laws;
 mod leaves;
 #[cfg(test)]
@@ -8,5 +9,6 @@ mod tests;
 mod tree;
 mod words;
 
+pub use cube::show_cube;
 pub use laws::read_again;
 pub use tree::show_tree;
