@@ -1,0 +1,13 @@
+pub mod ByParts
+pub mod Citing
+pub mod FlatOrder
+pub mod Gathered
+pub mod InPlace
+pub mod Leading
+pub mod Numbers
+pub mod Ordering
+pub mod Places
+pub mod Placing
+pub mod Reaching
+pub mod Renumbering
+pub mod WholeOrder
