@@ -1,0 +1,5 @@
+pub mod NameLemmas
+pub mod KnownLemmas
+pub mod TreeLemmas
+pub mod SectionLemmas
+pub mod ProgramLemmas
