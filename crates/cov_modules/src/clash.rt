@@ -22,7 +22,7 @@ fn put_values(values: &[Value], set: &mut NameSet) -> Result<(), NoMemory>
 }
 
 /// Puts the symbols of the enumeration that a section declares into the set.
-fn put_symbols(s: &Section, set: &mut NameSet) -> Result<(), NoMemory>
+pub fn put_symbols(s: &Section, set: &mut NameSet) -> Result<(), NoMemory>
     ensures { OnOk result (AddsAll set.old set.new (symbols_of s.now)) }
 {
     match s {

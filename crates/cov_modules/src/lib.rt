@@ -22,5 +22,7 @@ mod sizes;
 mod tests;
 
 pub use check::check_modules;
+pub use clash::put_symbols;
+pub use main_module::main_place;
 pub use modules::Modules;
 pub use name_set::NameSet;
