@@ -1,0 +1,4 @@
+pub mod Coming
+pub mod Counted
+pub mod Table
+pub mod Touring
