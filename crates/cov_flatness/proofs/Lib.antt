@@ -1,0 +1,16 @@
+pub mod Counting
+pub mod Different
+pub mod FlatPlaces
+pub mod Among
+pub mod Walking
+pub mod ThereLemmas
+pub mod ByParts
+pub mod Reading
+pub mod Citing
+pub mod Visits
+pub mod Spelling
+pub mod Numbering
+pub mod FlatNames
+pub mod Bodies
+pub mod Amounts
+pub mod FlatLaw
