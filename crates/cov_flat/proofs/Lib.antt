@@ -1,0 +1,11 @@
+pub mod StopLemmas
+pub mod EntryLemmas
+pub mod SpellingLemmas
+pub mod RangeLemmas
+pub mod PassLemmas
+pub mod DefinitionLemmas
+pub mod DoubleLemmas
+pub mod AddedLemmas
+pub mod ListLemmas
+pub mod ModelLemmas
+pub mod FaultLemmas

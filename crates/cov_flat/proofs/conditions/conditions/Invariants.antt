@@ -1,0 +1,8 @@
+use Rattle.std.proofs.Common.{◌≡◌, take}
+use Rattle.std.specs.List.{flat_map}
+use Rattle.cov_flat.specs.Reading.{flat_walk}
+use Rattle.cov_flat.specs.Entries as spec
+use Rattle.cov_flat.proofs.conditions.conditions.Given as goal
+
+abbrev pub invariant-loop-number : goal.invariant-loop-number
+invariant-loop-number l = l.found ≡ flat_map (spec.conditions_of l.p l.kind) (take l.number (flat_walk l.p))
