@@ -1,0 +1,11 @@
+pub mod Booleans
+pub mod ClosedLemmas
+pub mod Compound
+pub mod Firsts
+pub mod Gathering
+pub mod Loosening
+pub mod Nodes
+pub mod Passes
+pub mod SettledLemmas
+pub mod Simple
+pub mod WidestLemmas

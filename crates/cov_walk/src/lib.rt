@@ -1,0 +1,33 @@
+//! The walk over one expression: its first fault or its own kind, and 0 and 1 read as FALSE and TRUE in Boolean places.
+#![tactic(auto)]
+
+mod arms;
+mod asked;
+mod boolean;
+mod cases;
+mod checking;
+mod closed;
+mod found;
+mod judging;
+mod leaves;
+mod may;
+mod members;
+mod misfits;
+mod operator;
+mod refuse;
+mod sets;
+mod settling;
+mod site;
+#[cfg(test)]
+mod tests;
+mod topping;
+mod trees;
+mod wide;
+#[cfg(test)]
+mod width_tests;
+mod widths;
+
+pub use checking::{check, own_kind};
+pub use may::May;
+pub use settling::settle;
+pub use widths::widest;
