@@ -1,0 +1,11 @@
+pub mod Accepting
+pub mod Defining
+pub mod ExtentLemmas
+pub mod Limits
+pub mod LoweredSizes
+pub mod Naming
+pub mod SmallModel
+pub mod Tells
+pub mod Twice
+pub mod Valued
+pub mod Walking
