@@ -7,7 +7,7 @@ use Rattle.cov_classes.specs.Partition.{is_typed, first_state, comes_before, IsF
 use Rattle.cov_classes.proofs.Listing.{at_or_after, and_split, and_join, below, is_below}
 
 -- the first that is there
-abbrev or_else : {A : Type 0} → Option A → Option A → Option A
+abbrev pub or_else : {A : Type 0} → Option A → Option A → Option A
 or_else (Some x) o = Some x
 or_else None o = o
 
@@ -20,7 +20,7 @@ find_append p (x ∷ xs) ys = by (p x) (find_append p xs ys)
     by false e = e
 
 -- a state with one more place in front
-abbrev fronted : ℕ → Option (List ℕ) → Option (List ℕ)
+abbrev pub fronted : ℕ → Option (List ℕ) → Option (List ℕ)
 fronted v None = None
 fronted v (Some s) = Some (v ∷ s)
 
@@ -34,11 +34,11 @@ find_mapped set v (s ∷ ss) = by (set (v ∷ s)) (find_mapped set v ss)
     by false e = e
 
 -- the first state of a set, by the values of the first variable from one on
-abbrev first_from : List ℕ → Set → ℕ → ℕ → Option (List ℕ)
+abbrev pub first_from : List ℕ → Set → ℕ → ℕ → Option (List ℕ)
 first_from ns set a zero = None
 first_from ns set a (suc n) = or_else (fronted a (first_state ns (rest set a))) (first_from ns set (a + 1) n)
 
-by_values : (ns : List ℕ) (set : Set) (a n : ℕ) → find set (flat_map (λ v. map (λ s. v ∷ s) (states ns)) (range_with_len a n)) ≡ first_from ns set a n
+pub by_values : (ns : List ℕ) (set : Set) (a n : ℕ) → find set (flat_map (λ v. map (λ s. v ∷ s) (states ns)) (range_with_len a n)) ≡ first_from ns set a n
 by_values ns set a zero = refl
 by_values ns set a (suc n) =
     find_append set (map (λ s. a ∷ s) (states ns)) (flat_map (λ v. map (λ s. v ∷ s) (states ns)) (range_with_len (a + 1) n))

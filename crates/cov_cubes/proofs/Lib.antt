@@ -1,0 +1,11 @@
+pub mod Rows
+pub mod Apart
+pub mod Rests
+pub mod Sizes
+pub mod Firsts
+pub mod Equal
+pub mod Joined
+pub mod Gathered
+pub mod Counted
+pub mod Turns
+pub mod Walking

@@ -1,0 +1,14 @@
+//! The cubes of a set of states that is kept as a diagram, and its first state.
+#![tactic(auto)]
+
+mod classes;
+mod found;
+mod laws;
+mod least;
+mod listing;
+mod variable;
+mod walk;
+
+pub use laws::rows_are_those_of_codes;
+pub use least::first;
+pub use listing::cubes;

@@ -1,0 +1,4 @@
+pub mod Fields
+pub mod Sets
+pub mod Laws
+pub mod Steps
