@@ -40,6 +40,7 @@ printf 'MODULE main INIT %s' "$(printf '%129s' '' | tr ' ' '(')" >"$place/open"
 mkdir "$place/folder"
 usage='usage: covsmv COMMAND MODEL [SIGNAL..] [OPTIONS]\n'
 
+cp examples/lights.smv "$place/lights"
 expect 'a model' 0 'initial\n  a=FALSE\n  a=TRUE,b=FALSE\n' '' init model
 printf 'MODULE main VAR q : boolean; INIT !q TRANS next(q) & !q | !next(q) & q SPEC AG !q' >"$place/toggle"
 printf 'MODULE main VAR q : boolean; TRANS FALSE SPEC AG q' >"$place/blocked"
@@ -76,6 +77,19 @@ END
 expect 'a model of several modules is read' 3 '' 'model: NotBuilt at 1:1\n' check clients
 sed 's/esac;$/esac/' "$place/clients" >"$place/unended"
 expect 'a model of several modules with a fault' 3 '' 'model: Syntax at 5:1\n' check unended
+{ printf 'MODULE main VAR\n'; for i in $(seq 4097); do echo "v$i : boolean;"; done; } >"$place/many"
+expect 'too many variables' 3 '' 'model: TooLarge at 1:1\n' check many
+{ printf 'MODULE main VAR a : m1; b : m1;\n'; for i in $(seq 60); do echo "MODULE m$i VAR a : m$((i + 1)); b : m$((i + 1));"; done; echo 'MODULE m61 VAR c : boolean;'; } >"$place/doubling"
+expect 'instances that double at each level' 3 '' 'model: TooLarge at 1:1\n' check doubling
+printf 'MODULE main VAR a : m(b); b : boolean; INIT a.c MODULE m(p) VAR c : boolean; INVAR c -> p' >"$place/later"
+expect 'an argument that is declared behind its instance' 0 'initial\n  b=TRUE,a.c=TRUE\n' '' init later
+{ printf 'MODULE main VAR\n'; for i in $(seq 4097); do echo "v$i : boolean;"; done; } >"$place/many"
+expect 'too many variables' 3 '' 'model: TooLarge at 1:1\n' check many
+{ printf 'MODULE main VAR a : m1; b : m1;\n'; for i in $(seq 60); do echo "MODULE m$i VAR a : m$((i + 1)); b : m$((i + 1));"; done; echo 'MODULE m61 VAR c : boolean;'; } >"$place/doubling"
+expect 'instances that double at each level' 3 '' 'model: TooLarge at 1:1\n' check doubling
+printf 'MODULE main VAR a : m(b); b : boolean; INIT a.c MODULE m(p) VAR c : boolean; INVAR c -> p' >"$place/later"
+expect 'an argument that is declared behind its instance' 0 'initial\n  b=TRUE,a.c=TRUE\n' '' init later
+expect 'modules with parameters and DEFINEs' 0 'initial\n  switch=FALSE\n  switch=TRUE,hall.works=FALSE\n  switch=TRUE,hall.works=TRUE,stairs.works=FALSE\n' '' init lights
 expect 'an empty file to check' 3 '' 'model: Syntax at 1:1\n' check empty
 expect 'an empty file' 3 '' 'model: Syntax at 1:1\n' init empty
 expect 'a file of blanks' 3 '' 'model: Syntax at 1:4098\n' init long

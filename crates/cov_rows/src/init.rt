@@ -23,6 +23,15 @@ fn initial_states(rt: HostRuntime) -> Result<(), Fail> {
             "MODULE main VAR a : boolean; b : boolean; INIT a | b & !a",
             "initial\n  a=FALSE,b=TRUE\n  a=TRUE\n",
         ),
+        // The instance's argument is declared behind it.
+        (
+            "MODULE main VAR a : m(b); b : boolean; INIT a.c MODULE m(p) VAR c : boolean; INVAR c -> p",
+            "initial\n  b=TRUE,a.c=TRUE\n",
+        ),
+        (
+            "MODULE main VAR a : boolean; b : boolean; ASSIGN init(a) := b; DEFINE c := a xor b; INVAR !c",
+            "initial\n  a=FALSE,b=FALSE\n  a=TRUE,b=TRUE\n",
+        ),
         (
             "MODULE main -- a comment\nVAR c : boolean;\r\n\tINIT TRUE",
             "initial\n  all\n",
@@ -94,13 +103,17 @@ fn texts_with_a_fault(rt: HostRuntime) -> Result<(), Fail> {
         ("MODULE main VAR a : {x, y};", "model: NotBuilt at 1:1\n"),
         (
             "MODULE main VAR a : boolean; a : boolean;",
-            "model: NotBuilt at 1:1\n",
+            "model: DuplicateName at 1:30\n",
         ),
         (
             "MODULE main VAR a : boolean; INIT b",
+            "model: UnknownName at 1:35\n",
+        ),
+        ("MODULE m VAR a : boolean;", "model: NoMain at 1:1\n"),
+        (
+            "MODULE main VAR a : boolean; b : boolean; c : boolean; d : boolean; e : boolean; f : boolean; g : boolean;",
             "model: NotBuilt at 1:1\n",
         ),
-        ("MODULE m VAR a : boolean;", "model: NotBuilt at 1:1\n"),
     ] {
         expect(
             &rt,

@@ -6,6 +6,8 @@ mod check;
 #[cfg(test)]
 mod failures;
 #[cfg(test)]
+mod faults;
+#[cfg(test)]
 mod init;
 #[cfg(test)]
 mod readings;

@@ -1,9 +1,5 @@
 pub mod BuildLemmas
 pub mod AfterLemmas
-pub mod CofactorLemmas
-pub mod RowLemmas
-pub mod GatherLemmas
-pub mod CubeLemmas
 pub mod SomeLemmas
 pub mod MemberLemmas
 pub mod SetLemmas

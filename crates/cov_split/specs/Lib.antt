@@ -1,9 +1,5 @@
 pub mod States
-pub mod Cubes
 pub mod Tests
 pub mod StateSets
-pub mod BooleanCubes
-pub mod Cofactors
-pub mod InitialCubes
 pub mod Structures
 pub mod Turns

@@ -1,6 +1,6 @@
-use crate::{Class, Verdict, initial_cubes, verdict_of};
+use crate::{Verdict, verdict_of};
 use cov_small::SmallModel;
-use cov_syntax::{Expr, Names, Node, Op1, Op2, Seq, Span};
+use cov_syntax::{Expr, Names, Node, Op1, Seq, Span};
 use sqlite_items::Boxed;
 use std::test::Fail;
 
@@ -9,38 +9,6 @@ fn expr(node: Node) -> Expr {
         node,
         place: Span { start: 0, stop: 0 },
     }
-}
-
-#[test]
-fn not_both_of_two_variables(rt: HostRuntime) -> Result<(), Fail> {
-    let alloc = rt.alloc();
-    let mut names = Names::new(alloc);
-    names.add(b"a")?;
-    names.add(b"b")?;
-    let both = Node::Two(
-        Op2::And,
-        Boxed::new(alloc, expr(Node::Var(0)))?,
-        Boxed::new(alloc, expr(Node::Var(1)))?,
-    );
-    let mut inits = Seq::new(alloc);
-    inits.push(expr(Node::One(Op1::Not, Boxed::new(alloc, expr(both))?)))?;
-    let model = SmallModel {
-        names,
-        inits,
-        trans: Seq::new(alloc),
-        spec: None,
-    };
-    let cubes = initial_cubes(alloc, &model)?;
-    assert_eq!(rt; cubes.len(), 2);
-    assert_eq!(rt;
-        cubes.get(0).as_slice(),
-        [Class::False, Class::Both].as_slice()
-    );
-    assert_eq!(rt;
-        cubes.get(1).as_slice(),
-        [Class::True, Class::False].as_slice()
-    );
-    Ok(())
 }
 
 #[test]

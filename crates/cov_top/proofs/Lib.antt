@@ -1,4 +1,4 @@
+pub mod ReadLemmas
 pub mod RunLemmas
 pub mod PositionLemmas
 pub mod TransferLemmas
-pub mod ShowLemmas

@@ -1,14 +1,18 @@
 -- Lemmas on the causes of a run's answers.
-use Rattle.std.proofs.Common.{◌≡◌, ℕ, Bool, ◌<◌, List, [], Option, Some, None, length, Err, refl, inl, subst}
+use Rattle.std.proofs.Common.{◌≡◌, ℕ, Bool, ◌<◌, List, [], Option, Some, None, length, Err, IsTrue, refl, inl, inr, subst}
 use Rattle.std.proofs.lemmas.Bool.{lt-ltb}
 use Rattle.cov_io.specs.Outside.{Table}
 use Rattle.cov_syntax.specs.Tokens as spec
+use Rattle.cov_syntax.specs.declared.program.Program.{Program}
+use Rattle.cov_model.specs.declared.model.Model as models
 use Rattle.cov_top.specs.Transfer.{IsLonger}
-use Rattle.cov_top.specs.Reading.{IsSmallText, IsTextFault}
+use Rattle.cov_top.specs.Reading.{IsTextFault}
+use Rattle.cov_top.specs.Serving.{serves}
 use Rattle.cov_top.specs.Refusal.{IsCause, IsRefusal, file_too_long}
 use Rattle.cov_top.specs.Words.{model_name}
-use Rattle.cov_top.specs.Run.{IsAcceptedFile, IsInputFault, IsJobReport, IsPlace, IsRefusedFile}
+use Rattle.cov_top.specs.Run.{IsAcceptedFile, IsFaultOf, IsInputFault, IsJobReport, IsPlace, IsRefusedFile, IsReportOn, IsServed, IsTextReport}
 use Rattle.cov_top.specs.declared.words.Job.{Job}
+use Rattle.cov_top.specs.declared.words.Job.TheVariants.{Init, Check}
 use Rattle.cov_top.specs.declared.program.Refusal.{Refusal}
 use Rattle.cov_top.specs.declared.status.Status.TheVariants.{Input}
 use Rattle.cov_top.specs.declared.status.InputFault.{InputFault}
@@ -23,11 +27,11 @@ unfolding spec.tokens
 tokens-long text h = rw (lt-ltb 1048576 (length text) h) refl
 
 fault-long : (text : List ℕ) → 1048576 < length text → IsTextFault text file_too_long
-fault-long text h = let e = tokens-long text h in record { unread = λ m small. let f = small.reads.cut in absurd cc; cause = inl e }
+fault-long text h = let e = tokens-long text h in record { refused = λ p m a. let f = a.reads.cut in absurd cc; cause = inl e }
 
 input-longer : (told : Option Table) (j : Job) → IsLonger told (model_name j) 1048576 → IsInputFault told (Some j) (Model file_too_long)
 input-longer None j h = tt
-input-longer (Some files) j h = (h.0, h.1, fault-long h.0 h.2)
+input-longer (Some files) j h = (h.0, h.1, inl (fault-long h.0 h.2))
 
 place-longer : (told : Option Table) (j : Job) → IsLonger told (model_name j) 1048576 → IsPlace told (Some j) too_long.status 1 1 None
 place-longer None j h = ([], tt, refl, refl, refl)
@@ -42,17 +46,31 @@ refusal-longer told before now j name r is h e =
 same_bytes : (o : Option (List ℕ)) (a b : List ℕ) → o ≡ Some a → o ≡ Some b → a ≡ b
 same_bytes o a b e f = cc
 
--- a file that is no small text has no report
+-- what has a report is served
+served : (j : Job) (p : Program) (m : models.Model) (passes : Bool) (text : List ℕ) → IsReportOn j p m passes text → IsTrue (serves j p m)
+served (Init name) p m passes text r = r.0
+served (Check name) p m passes text r = rw (r.1) refl
+
+reported : (j : Job) (bytes : List ℕ) (passes : Bool) (text : List ℕ) → IsTextReport j bytes passes text → IsServed j bytes
+reported j bytes passes text r = record { program = r.program; model = r.model; accepted = r.accepted; served = served j r.program r.model passes text r.is }
+
+-- a file that is accepted as no model that the job serves has no report
 pub refused-report : (told : Option Table) (j : Option Job) (passes : Bool) (text : List ℕ) → IsRefusedFile told j → IsJobReport told j passes text → ⊥
 refused-report told None passes text h r = h
 refused-report None (Some j) passes text h r = h
-refused-report (Some files) (Some j) passes text h r = h.2 r.model (subst (λ b. IsSmallText b r.model) (same_bytes _ r.bytes h.0 r.file.0 h.1) r.reads)
+refused-report (Some files) (Some j) passes text h r =
+    h.2 (subst (λ b. IsServed j b) (same_bytes _ r.bytes h.0 r.file.0 h.1) (reported j r.bytes passes text r.report))
 
--- a file that is a small text has no fault
+-- what is served has no fault
+served-fault : (j : Job) (bytes : List ℕ) (s : IsServed j bytes) → (f : _) → IsFaultOf j bytes f → ⊥
+served-fault j bytes s f (inl t) = t.refused s.program s.model s.accepted
+served-fault j bytes s f (inr n) = let unserved = n.0.unserved s.program s.model s.accepted in let yes = s.served in absurd cc
+
+-- a file that is accepted as a model that the job serves has no fault
 accepted-fault : (told : Option Table) (j : Option Job) (f : InputFault) → IsAcceptedFile told j → IsInputFault told j f → ⊥
 accepted-fault told None f h r = h
 accepted-fault None (Some j) f h r = h
-accepted-fault (Some files) (Some j) (Model f) h r = r.2.unread h.1 (subst (λ b. IsSmallText b h.1) (same_bytes _ h.0 r.0 h.2 r.1) h.3)
+accepted-fault (Some files) (Some j) (Model f) h r = served-fault j r.0 (subst (λ b. IsServed j b) (same_bytes _ h.0 r.0 h.1 r.1) h.2) f r.2
 
 pub accepted-refusal : (told : Option Table) (before now : ℕ) (j : Option Job) (r : Refusal) → IsAcceptedFile told j → IsRefusal told before now j r → (f : InputFault) → r.status ≡ Input f → ⊥
 accepted-refusal told before now j r h is f e = accepted-fault told j f h (subst (λ s. IsCause told before now j s) e is.cause)

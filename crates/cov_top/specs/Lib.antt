@@ -1,11 +1,11 @@
+pub mod Accepting
 pub mod ErrorLine
 pub mod Position
 pub mod Reading
 pub mod Refusal
 pub mod Report
 pub mod Run
-pub mod Show
-pub mod ShowBooleans
+pub mod Serving
 pub mod ShowExprs
 pub mod Status
 pub mod Transfer

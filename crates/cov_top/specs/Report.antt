@@ -1,10 +1,12 @@
 -- What the commands print.
-use Rattle.std.specs.Prelude.{◌≡◌, ℕ, Bool, true, false, IsTrue, ◌↔◌, List, [], ◌++◌, map, codes, Option, Some, None}
+use Rattle.std.specs.Prelude.{◌≡◌, ℕ, Bool, true, false, IsTrue, ◌↔◌, List, [], ◌++◌, codes, Option, Some, None}
 use Rattle.cov_syntax.specs.declared.tree.Expr.{Expr}
+use Rattle.cov_model.specs.declared.model.Model.{Model}
+use Rattle.cov_initial.specs.Initial.{initial_cubes}
+use Rattle.cov_show.specs.Cubes.{shown_vars}
+use Rattle.cov_report.specs.Lines.{set_lines}
 use Rattle.cov_small.specs.declared.model.SmallModel.{SmallModel}
-use Rattle.cov_split.specs.InitialCubes.{initial_cubes}
 use Rattle.cov_split.specs.Structures.{HasFairInitial, SpecPasses}
-use Rattle.cov_top.specs.Show.{set_lines, boolean}
 use Rattle.cov_top.specs.ShowExprs.{printed, placed}
 
 -- the line on initial states without a lasso
@@ -38,5 +40,5 @@ pub record IsCheckReport (m : SmallModel) (passes : Bool) (text : List ℕ) : Ty
   pub is : text ≡ check_text m fair passes
 
 -- the initial states
-abbrev pub init_report : SmallModel → List ℕ
-init_report m = set_lines 0 (codes "initial") (map boolean m.names) (initial_cubes m)
+abbrev pub init_report : Model → List ℕ
+init_report m = set_lines 0 (codes "initial") (shown_vars m) (record { cubes = initial_cubes m; more = false })

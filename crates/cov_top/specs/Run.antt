@@ -1,8 +1,14 @@
 -- What a run of the program reads, reports and tells.
-use Rattle.std.specs.Prelude.{◌≡◌, ℕ, Bool, true, List, Option, Some, None}
+use Rattle.std.specs.Prelude.{◌≡◌, ℕ, Bool, true, List, ◌⊎◌, Option, Some, None, IsTrue}
 use Rattle.cov_io.specs.Outside.{Table, file_of, IsFile}
 use Rattle.cov_small.specs.declared.model.SmallModel.{SmallModel}
-use Rattle.cov_top.specs.Reading.{IsSmallText, IsNoSmallText, IsTextFault}
+use Rattle.cov_small.specs.Models.{small_model}
+use Rattle.cov_syntax.specs.declared.program.Program.{Program}
+use Rattle.cov_syntax.specs.declared.fault.ModelFault.{ModelFault}
+use Rattle.cov_model.specs.declared.model.Model as models
+use Rattle.cov_initial.specs.Initial.{is_few}
+use Rattle.cov_top.specs.Reading.{IsAccepted, IsTextFault}
+use Rattle.cov_top.specs.Serving.{IsNotServed, serves, not_built}
 use Rattle.cov_syntax.specs.declared.words.Word.{Word}
 use Rattle.cov_top.specs.Position.{line_of, column_of, told_word}
 use Rattle.cov_top.specs.Report.{init_report, IsCheckReport}
@@ -25,41 +31,57 @@ IsMissing told None = ⊥
 IsMissing None (Some j) = ⊥
 IsMissing (Some files) (Some j) = file_of files (model_name j) ≡ None
 
--- files are told, and the bytes of the one that the job names are no small text
+-- the bytes are accepted as a model that the job serves
+pub record IsServed (j : Job) (bytes : List ℕ) : Type 0 where
+  pub program : Program
+  pub model : models.Model
+  pub accepted : IsAccepted bytes program model
+  pub served : IsTrue (serves j program model)
+
+-- files are told, and the bytes of the one that the job names are accepted as a model that it serves
+abbrev pub IsAcceptedFile : Option Table → Option Job → Type 0
+IsAcceptedFile told None = ⊥
+IsAcceptedFile None (Some j) = ⊥
+IsAcceptedFile (Some files) (Some j) = (bytes : List ℕ) × (file_of files (model_name j) ≡ Some bytes) × IsServed j bytes
+
+-- files are told, and the bytes of the one that the job names are accepted as no model that it serves
 abbrev pub IsRefusedFile : Option Table → Option Job → Type 0
 IsRefusedFile told None = ⊥
 IsRefusedFile None (Some j) = ⊥
-IsRefusedFile (Some files) (Some j) = (bytes : List ℕ) × (file_of files (model_name j) ≡ Some bytes) × IsNoSmallText bytes
+IsRefusedFile (Some files) (Some j) = (bytes : List ℕ) × (file_of files (model_name j) ≡ Some bytes) × (IsServed j bytes → ⊥)
 
--- the whole report of a job on a model, and whether what it judges passes
-abbrev pub IsReportOn : Job → SmallModel → Bool → List ℕ → Type 0
-IsReportOn (Init name) m passes text = (passes ≡ true) × (text ≡ init_report m)
-IsReportOn (Check name) m passes text = IsCheckReport m passes text
+-- the whole report of a job on a program and its model, and whether what it judges passes
+abbrev pub IsReportOn : Job → Program → models.Model → Bool → List ℕ → Type 0
+IsReportOn (Init name) p m passes text = IsTrue (is_few m) × (passes ≡ true) × (text ≡ init_report m)
+IsReportOn (Check name) p m passes text = (s : SmallModel) × (small_model p ≡ Some s) × IsCheckReport s passes text
 
--- the text is the report on the model that the whole file of the job is read as
+-- a text is accepted as a program with its model, and the report of a job on these is this text
+pub record IsTextReport (j : Job) (bytes : List ℕ) (passes : Bool) (text : List ℕ) : Type 0 where
+  pub program : Program
+  pub model : models.Model
+  pub accepted : IsAccepted bytes program model
+  pub is : IsReportOn j program model passes text
+
+-- the text is the report on the whole file of the job
 pub record IsReport (told : Option Table) (j : Job) (passes : Bool) (text : List ℕ) : Type 0 where
   pub bytes : List ℕ
-  pub model : SmallModel
   pub file : IsFile told (model_name j) (Some bytes)
-  pub reads : IsSmallText bytes model
-  pub is : IsReportOn j model passes text
+  pub report : IsTextReport j bytes passes text
 
 -- the words ask for a job, and the text is its report
 abbrev pub IsJobReport : Option Table → Option Job → Bool → List ℕ → Type 0
 IsJobReport told None passes text = ⊥
 IsJobReport told (Some j) passes text = IsReport told j passes text
 
--- files are told, and the bytes of the one that the job names are a small text
-abbrev pub IsAcceptedFile : Option Table → Option Job → Type 0
-IsAcceptedFile told None = ⊥
-IsAcceptedFile None (Some j) = ⊥
-IsAcceptedFile (Some files) (Some j) = (bytes : List ℕ) × (m : SmallModel) × (file_of files (model_name j) ≡ Some bytes) × IsSmallText bytes m
+-- the fault of a text, or that its model is not served
+abbrev pub IsFaultOf : Job → List ℕ → ModelFault → Type 0
+IsFaultOf j bytes f = IsTextFault bytes f ⊎ (IsNotServed j bytes × (f ≡ not_built))
 
 -- the whole file of the job has this fault, where files are told
 abbrev pub IsInputFault : Option Table → Option Job → InputFault → Type 0
 IsInputFault told None f = ⊥
 IsInputFault None (Some j) f = Unit {0}
-IsInputFault (Some files) (Some j) (Model f) = (bytes : List ℕ) × (file_of files (model_name j) ≡ Some bytes) × IsTextFault bytes f
+IsInputFault (Some files) (Some j) (Model f) = (bytes : List ℕ) × (file_of files (model_name j) ≡ Some bytes) × IsFaultOf j bytes f
 
 -- the line and the column of the place of a status' fault in the file of the job, and the word that is told there
 abbrev pub IsPlace : Option Table → Option Job → Status → ℕ → ℕ → Option Word → Type 0

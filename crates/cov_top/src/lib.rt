@@ -6,7 +6,6 @@ mod position;
 mod program;
 mod reading;
 mod report;
-mod show;
 mod show_expr;
 mod status;
 mod transfer;

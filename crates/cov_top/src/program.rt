@@ -1,7 +1,7 @@
 ghost use Rattle.std.specs.Prelude.{◌≡◌, ◌≢◌, ◌≤◌, ℕ, Bool, true, false, List, ◌<◌, ◌^◌, ◌⊎◌, length, Option, None, Some, IfOk, IfErr};
 ghost use Rattle.cov_io.specs.Outside.{Rose, Gains};
 ghost use Rattle.cov_top.specs.ErrorLine.{error_line, PutsLine};
-ghost use Rattle.cov_top.specs.Run.{IsInputFault, IsJobReport, IsAcceptedFile, IsMissing, IsPlace, IsRefusedFile, IsReportOn};
+ghost use Rattle.cov_top.specs.Run.{IsInputFault, IsJobReport, IsAcceptedFile, IsMissing, IsPlace, IsRefusedFile, IsTextReport, IsFaultOf};
 ghost use Rattle.cov_top.specs.Refusal.{IsRefusal, IsUnread, file_too_long};
 ghost use Rattle.cov_top.specs.Transfer.{GainsPart};
 ghost use Rattle.cov_top.specs.Words.{job};
@@ -9,13 +9,12 @@ ghost use Rattle.cov_top.specs.Words.{job};
 use crate::error_line::put_error_line;
 use crate::position::{Position, position_of, told_word};
 use crate::reading::read_model;
-use crate::report::{Report, check_report, init_report};
+use crate::report::{Report, job_report};
 use crate::status::{InputFault, Status};
 use crate::transfer::{ReadFault, put_all, read_file};
 use crate::words::{Job, WordsFault, read_words};
 use cov_io::{Files, Sink};
-use cov_small::SmallModel;
-use cov_syntax::{FaultKind, NoMemory, Refused, Span, Word};
+use cov_syntax::{FaultKind, ModelFault, Refused, Span, Word};
 use std::alloc::Global;
 
 /// The most bytes of a model's text.
@@ -76,25 +75,19 @@ fn report_on<F: Files>(alloc: Global, files: &mut F, job: &Job) -> Result<Report
         Err(ReadFault::TooLong) => return Err(too_long()),
         Err(ReadFault::Memory) => return Err(refuse(Status::Memory)),
     };
-    let model = match read_model(alloc, text.as_slice()) {
-        Ok(model) => model,
-        Err(refused) => return Err(unread(text.as_slice(), refused)),
-    };
-    match report(alloc, job, &model) {
+    match report_on_text(alloc, job, text.as_slice()) {
         Ok(report) => Ok(report),
-        Err(NoMemory) => Err(refuse(Status::Memory)),
+        Err(refused) => Err(unread(text.as_slice(), refused)),
     }
 }
 
-/// The report of a job on a model.
-fn report(alloc: Global, job: &Job, model: &SmallModel) -> Result<Report, NoMemory>
-    requires { length model.now.names ≤ 6 }
-    ensures { IfOk result (λ r. IsReportOn job.now model.now r.passes r.text) }
+/// The report of a job on the text of a model.
+fn report_on_text(alloc: Global, job: &Job, text: &[u8]) -> Result<Report, Refused>
+    ensures ok { IfOk result (λ r. IsTextReport job.now text.now r.passes r.text) }
+    ensures fault { (f : ModelFault) → result ≡ Err (Refused.Fault f) → IsFaultOf job.now text.now f }
 {
-    match job {
-        Job::Init { model: _ } => init_report(alloc, model),
-        Job::Check { model: _ } => check_report(alloc, model),
-    }
+    let accepted = read_model(alloc, text)?;
+    job_report(alloc, job, &accepted)
 }
 
 /// The report of the words' job, made whole before any of it is put.

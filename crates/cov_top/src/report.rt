@@ -1,11 +1,20 @@
-ghost use Rattle.std.specs.Prelude.{◌≡◌, ◌≤◌, ◌++◌, true, length, IfOk, OnOk};
+ghost use Rattle.std.specs.Prelude.{◌≡◌, ◌≤◌, ◌++◌, true, length, IfOk, IfSome, None, OnOk, IsTrue, IsFalse};
+ghost use Rattle.cov_initial.specs.Initial.{is_few};
+ghost use Rattle.cov_model.specs.WellFormed.{IsWellFormed};
+ghost use Rattle.cov_small.specs.Models.{small_model};
+ghost use Rattle.cov_top.specs.Run.{IsReportOn};
+ghost use Rattle.cov_top.specs.Serving.{not_built, serves};
 ghost use Rattle.cov_top.specs.Report as spec;
 
-use crate::show::set_lines;
+use crate::reading::Accepted;
 use crate::show_expr::show;
+use crate::words::Job;
+use cov_initial::{initial_cubes, is_few};
+use cov_model::Model;
+use cov_report::set_lines;
 use cov_small::SmallModel;
-use cov_split::{initial_cubes, verdict_of};
-use cov_syntax::{Expr, Names, NoMemory, Seq, Text};
+use cov_split::verdict_of;
+use cov_syntax::{Expr, FaultKind, ModelFault, Names, NoMemory, Program, Refused, Seq, Span, Text};
 use std::alloc::Global;
 
 /// A whole report, and whether what it judges passes.
@@ -15,16 +24,23 @@ pub(crate) struct Report {
     pub(crate) passes: bool,
 }
 
-/// The report on the initial states.
-pub(crate) fn init_report(alloc: Global, model: &SmallModel) -> Result<Report, NoMemory>
-    requires { length model.now.names ≤ 6 }
-    ensures { IfOk result (λ r. (r.passes ≡ true) × (r.text ≡ spec.init_report model.now)) }
+/// The fault of a model that is right, and that the command does not serve yet.
+fn not_built() -> Refused
+    ensures { result ≡ Refused.Fault not_built }
 {
-    let cubes = initial_cubes(alloc, model)?;
-    Ok(Report {
-        text: set_lines(alloc, b"initial", &model.names, cubes.as_slice())?,
-        passes: true,
-    })
+    Refused::Fault(FaultKind::NotBuilt.at(Span { start: 0, stop: 0 }))
+}
+
+/// The report on the initial states.
+fn init_report(alloc: Global, m: &Model) -> Result<Report, NoMemory>
+    requires formed { IsWellFormed m.now }
+    requires few { IsTrue (is_few m.now) }
+    ensures { IfOk result (λ r. (r.passes ≡ true) × (r.text ≡ spec.init_report m.now)) }
+{
+    let cubes = initial_cubes(alloc, m)?;
+    let mut text = Seq::new(alloc);
+    set_lines(alloc, m, b"initial", &cubes, 0, &mut text)?;
+    Ok(Report { text, passes: true })
 }
 
 /// What stands before p in the line of the specification AG p.
@@ -67,7 +83,7 @@ fn check_text(
 }
 
 /// The report on the verdict of the specification.
-pub(crate) fn check_report(alloc: Global, model: &SmallModel) -> Result<Report, NoMemory>
+fn check_report(alloc: Global, model: &SmallModel) -> Result<Report, NoMemory>
     requires { length model.now.names ≤ 6 }
     ensures { IfOk result (λ r. spec.IsCheckReport model.now r.passes r.text) }
 {
@@ -76,4 +92,41 @@ pub(crate) fn check_report(alloc: Global, model: &SmallModel) -> Result<Report, 
         text: check_text(alloc, model, verdict.fair_initial, verdict.passes)?,
         passes: verdict.passes,
     })
+}
+
+/// The report on the initial states of a model that has few variables, all Boolean.
+fn init_answer(alloc: Global, m: &Model) -> Result<Report, Refused>
+    requires formed { IsWellFormed m.now }
+    ensures ok { IfOk result (λ r. IsTrue (is_few m.now) × (r.passes ≡ true) × (r.text ≡ spec.init_report m.now)) }
+    ensures fault { (f : ModelFault) → result ≡ Err (Refused.Fault f) → (f ≡ not_built) × IsFalse (is_few m.now) }
+{
+    if is_few(m) {
+        Ok(init_report(alloc, m)?)
+    } else {
+        Err(not_built())
+    }
+}
+
+/// The report on the verdict of a program that is small.
+fn check_answer(alloc: Global, small: &Option<SmallModel>) -> Result<Report, Refused>
+    requires { IfSome small.now (λ m. length m.names ≤ 6) }
+    ensures ok { IfOk result (λ r. (m : SmallModel) × (small.now ≡ Some m) × spec.IsCheckReport m r.passes r.text) }
+    ensures fault { (f : ModelFault) → result ≡ Err (Refused.Fault f) → (f ≡ not_built) × (small.now ≡ None) }
+{
+    match small {
+        Some(m) => Ok(check_report(alloc, m)?),
+        None => Err(not_built()),
+    }
+}
+
+/// The report of a job on what a text was accepted as.
+pub(crate) fn job_report(alloc: Global, job: &Job, accepted: &Accepted) -> Result<Report, Refused>
+    requires { IfSome accepted.now.small (λ m. length m.names ≤ 6) }
+    ensures ok { (p : Program) → small_model p ≡ accepted.now.small → IfOk result (λ r. IsReportOn job.now p accepted.now.checked r.passes r.text) }
+    ensures fault { (p : Program) (f : ModelFault) → small_model p ≡ accepted.now.small → result ≡ Err (Refused.Fault f) → (f ≡ not_built) × IsFalse (serves job.now p accepted.now.checked) }
+{
+    match job {
+        Job::Init { model: _ } => init_answer(alloc, accepted.checked.model()),
+        Job::Check { model: _ } => check_answer(alloc, &accepted.small),
+    }
 }
