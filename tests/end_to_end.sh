@@ -83,12 +83,6 @@ expect 'too many variables' 3 '' 'model: TooLarge at 1:1\n' check many
 expect 'instances that double at each level' 3 '' 'model: TooLarge at 1:1\n' check doubling
 printf 'MODULE main VAR a : m(b); b : boolean; INIT a.c MODULE m(p) VAR c : boolean; INVAR c -> p' >"$place/later"
 expect 'an argument that is declared behind its instance' 0 'initial\n  b=TRUE,a.c=TRUE\n' '' init later
-{ printf 'MODULE main VAR\n'; for i in $(seq 4097); do echo "v$i : boolean;"; done; } >"$place/many"
-expect 'too many variables' 3 '' 'model: TooLarge at 1:1\n' check many
-{ printf 'MODULE main VAR a : m1; b : m1;\n'; for i in $(seq 60); do echo "MODULE m$i VAR a : m$((i + 1)); b : m$((i + 1));"; done; echo 'MODULE m61 VAR c : boolean;'; } >"$place/doubling"
-expect 'instances that double at each level' 3 '' 'model: TooLarge at 1:1\n' check doubling
-printf 'MODULE main VAR a : m(b); b : boolean; INIT a.c MODULE m(p) VAR c : boolean; INVAR c -> p' >"$place/later"
-expect 'an argument that is declared behind its instance' 0 'initial\n  b=TRUE,a.c=TRUE\n' '' init later
 expect 'modules with parameters and DEFINEs' 0 'initial\n  switch=FALSE\n  switch=TRUE,hall.works=FALSE\n  switch=TRUE,hall.works=TRUE,stairs.works=FALSE\n' '' init lights
 expect 'an empty file to check' 3 '' 'model: Syntax at 1:1\n' check empty
 expect 'an empty file' 3 '' 'model: Syntax at 1:1\n' init empty
