@@ -1,0 +1,4 @@
+pub mod Numbers
+pub mod Gathering
+pub mod Choosing
+pub mod Combining
