@@ -1,0 +1,12 @@
+pub mod Families
+pub mod Numbers
+pub mod Rows
+pub mod Pairing
+pub mod Written
+pub mod Some
+pub mod Operating
+pub mod Chunking
+pub mod Defining
+pub mod Listed
+pub mod Variables
+pub mod Logic
