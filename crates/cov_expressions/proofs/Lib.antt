@@ -1,0 +1,10 @@
+pub mod Stack
+pub mod Families
+pub mod Gathering
+pub mod Chunked
+pub mod Operating
+pub mod OneOf
+pub mod Meant
+pub mod Tops
+pub mod Needed
+pub mod Walked
