@@ -1,0 +1,14 @@
+pub mod Marking
+pub mod Reading
+pub mod Typing
+pub mod Clearing
+pub mod Asking
+pub mod Standings
+pub mod Choosing
+pub mod Rooms
+pub mod Chunking
+pub mod Gathering
+pub mod Behind
+pub mod Concluding
+pub mod Carrying
+pub mod Variables

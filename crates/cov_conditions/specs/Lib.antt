@@ -1,0 +1,6 @@
+pub mod Asked
+pub mod Bodies
+pub mod Carried
+pub mod Conditions
+pub mod Fixed
+pub mod Marks
