@@ -1,0 +1,9 @@
+pub mod Deep
+pub mod Sets
+pub mod InARow
+pub mod Ruled
+pub mod Cited
+pub mod Fair
+pub mod Stepping
+pub mod Whole
+pub mod Built
