@@ -1,0 +1,5 @@
+pub mod Formulas
+pub mod Prepared
+pub mod Truths
+pub mod Refuted
+pub mod Turns
