@@ -65,17 +65,25 @@ added_none limit l open' few =
     by (inl h) = h
     by (inr h) = let lt : limit < length l.cubes + 0 = below limit (length l.cubes + 0) h in absurd (omega arith)
 
-pub few_added : (limit : ℕ) (l : CubeList) (xs : List (List (List ℕ))) → length (added limit l xs).cubes ≤ limit
+few_added : (limit : ℕ) (l : CubeList) (xs : List (List (List ℕ))) → length (added limit l xs).cubes ≤ limit
 few_added limit l xs = omega (arith, length-take limit (l.cubes ++ xs))
+
+-- there are at most as many cubes as the limit after a step
+pub few_found : (old new : Found) (xs : List (List (List ℕ))) → new ≡ record old { list = added old.limit old.list xs } → length new.list.cubes ≤ new.limit
+few_found old new xs is = subst (λ (f : Found). length f.list.cubes ≤ f.limit) (sym is) (few_added old.limit old.list xs)
 
 -- ---- behind further classes
 
 pub behind_append : (front : List (List ℕ)) (xs ys : List (List (List ℕ))) → behind front (xs ++ ys) ≡ behind front xs ++ behind front ys
 behind_append front xs ys = map-append (λ c. front ++ c) xs ys
 
-pub behind_one : (front : List (List ℕ)) (class : List ℕ) (xs : List (List (List ℕ))) → behind (front ++ class ∷ []) xs ≡ behind front (map (λ c. class ∷ c) xs)
-behind_one front class [] = refl
-behind_one front class (x ∷ xs) = ap₂ (λ (c : List (List ℕ)) (l : List (List (List ℕ))). c ∷ l) (append_assoc front (class ∷ []) x) (behind_one front class xs)
+pub behind_more : (front more : List (List ℕ)) (xs : List (List (List ℕ))) → behind (front ++ more) xs ≡ behind front (behind more xs)
+behind_more front more [] = refl
+behind_more front more (x ∷ xs) = ap₂ (λ (c : List (List ℕ)) (l : List (List (List ℕ))). c ∷ l) (append_assoc front more x) (behind_more front more xs)
+
+pub behind_first : (class : List ℕ) (more : List (List ℕ)) (xs : List (List (List ℕ))) → behind (class ∷ more) xs ≡ map (λ c. class ∷ c) (behind more xs)
+behind_first class more [] = refl
+behind_first class more (x ∷ xs) = ap (λ (l : List (List (List ℕ))). (class ∷ (more ++ x)) ∷ l) (behind_first class more xs)
 
 pub behind_none : (xs : List (List (List ℕ))) → behind [] xs ≡ xs
 behind_none [] = refl
@@ -88,11 +96,14 @@ all_taken p (suc n) [] h = cc
 all_taken p (suc n) (x ∷ xs) h = let s = and_split (p x) (list_all p xs) h in and_join (p x) (list_all p (take n xs)) s.0 (all_taken p n xs s.1)
 
 -- all cubes were looked for, from none on
-pub found_all : (new : Found) (front : List (List ℕ)) (none xs : List (List (List ℕ))) (limit : ℕ) → front ≡ [] → none ≡ []
-    → new ≡ record { front = front; limit = limit; list = added limit (record { cubes = none; more = false }) (behind front xs) } → (new.list.cubes ≡ take limit xs) × (new.list.more ≡ nat_lt limit (length xs))
-found_all new front none xs limit no_front no_cubes is =
-    let whole : new ≡ record { front = []; limit = limit; list = added limit (record { cubes = []; more = false }) xs } =
-    is ∙ ap₂ (λ (f : List (List ℕ)) (l : List (List (List ℕ))). record { front = f; limit = limit; list = added limit (record { cubes = l; more = false }) (behind f xs) }) no_front no_cubes
-    ∙ ap (λ (l : List (List (List ℕ))). record { front = []; limit = limit; list = added limit (record { cubes = []; more = false }) l }) (behind_none xs) in
-    let zero_more : 0 + length xs ≡ length xs = omega arith in
-    (ap (λ (f : Found). f.list.cubes) whole, ap (λ (f : Found). f.list.more) whole ∙ ap (nat_lt limit) zero_more)
+pub found_all : (mid new : Found) (front more : List (List ℕ)) (none xs whole : List (List (List ℕ))) (limit : ℕ) → front ≡ [] → none ≡ []
+    → mid ≡ record { front = front ++ more; limit = limit; list = record { cubes = none; more = false } } → new ≡ record mid { list = added mid.limit mid.list (behind mid.front xs) }
+    → whole ≡ behind more xs → (new.list.cubes ≡ take limit whole) × (new.list.more ≡ nat_lt limit (length whole))
+found_all mid new front more none xs whole limit no_front no_cubes entered is all =
+    let start : mid ≡ record { front = more; limit = limit; list = record { cubes = []; more = false } } =
+    entered ∙ ap₂ (λ (f : List (List ℕ)) (l : List (List (List ℕ))). record { front = f ++ more; limit = limit; list = record { cubes = l; more = false } }) no_front no_cubes in
+    let done : new ≡ record { front = more; limit = limit; list = added limit (record { cubes = []; more = false }) whole } =
+    is ∙ ap (λ (f : Found). record f { list = added f.limit f.list (behind f.front xs) }) start
+    ∙ ap (λ (l : List (List (List ℕ))). record { front = more; limit = limit; list = added limit (record { cubes = []; more = false }) l }) (sym all) in
+    let zero_more : 0 + length whole ≡ length whole = omega arith in
+    (ap (λ (f : Found). f.list.cubes) done, ap (λ (f : Found). f.list.more) done ∙ ap (nat_lt limit) zero_more)

@@ -55,7 +55,7 @@ not_any p v h w lt = truth_false (p w) (λ t. by (list_any p (values v)) h (any_
     by true e t = cc
     by false e t = cc
 
-true_is : (b : Bool) → IsTrue b → b ≡ true
+pub true_is : (b : Bool) → IsTrue b → b ≡ true
 true_is true h = refl
 true_is false h = cc
 

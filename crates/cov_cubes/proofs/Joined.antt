@@ -29,13 +29,13 @@ pub range_flat : {X : Type 0} (f g : ℕ → List X) (a n : ℕ) → ((v : ℕ) 
 range_flat f g a zero h = refl
 range_flat f g a (suc n) h = ap₂ ◌++◌ (h a (omega arith) (omega arith)) (range_flat f g (a + 1) n (λ v lo hi. h v (omega arith) (omega arith)))
 
-range_filter : (p q : ℕ → Bool) (a n : ℕ) → ((v : ℕ) → a ≤ v → v < a + n → p v ≡ q v) → filter p (range_with_len a n) ≡ filter q (range_with_len a n)
+pub range_filter : (p q : ℕ → Bool) (a n : ℕ) → ((v : ℕ) → a ≤ v → v < a + n → p v ≡ q v) → filter p (range_with_len a n) ≡ filter q (range_with_len a n)
 range_filter p q a zero h = refl
 range_filter p q a (suc n) h =
     ap (λ b. if b then a ∷ filter p (range_with_len (a + 1) n) else filter p (range_with_len (a + 1) n)) (h a (omega arith) (omega arith))
     ∙ ap (λ (l : List ℕ). if q a then a ∷ l else l) (range_filter p q (a + 1) n (λ v lo hi. h v (omega arith) (omega arith)))
 
-range_any : (p q : ℕ → Bool) (a n : ℕ) → ((v : ℕ) → a ≤ v → v < a + n → p v ≡ q v) → list_any p (range_with_len a n) ≡ list_any q (range_with_len a n)
+pub range_any : (p q : ℕ → Bool) (a n : ℕ) → ((v : ℕ) → a ≤ v → v < a + n → p v ≡ q v) → list_any p (range_with_len a n) ≡ list_any q (range_with_len a n)
 range_any p q a zero h = refl
 range_any p q a (suc n) h =
     ap (λ b. b || list_any p (range_with_len (a + 1) n)) (h a (omega arith) (omega arith)) ∙ ap (λ b. q a || b) (range_any p q (a + 1) n (λ v lo hi. h v (omega arith) (omega arith)))
@@ -43,7 +43,7 @@ range_any p q a (suc n) h =
 -- ---- states
 
 -- what each typed state has, all states have
-states_all : (ns : List ℕ) (p : List ℕ → Bool) → ((s : List ℕ) → IsTrue (is_typed ns s) → IsTrue (p s)) → IsTrue (list_all p (states ns))
+pub states_all : (ns : List ℕ) (p : List ℕ → Bool) → ((s : List ℕ) → IsTrue (is_typed ns s) → IsTrue (p s)) → IsTrue (list_all p (states ns))
 states_all [] p h = and_join (p []) true (h [] (cc)) (cc)
 states_all (n ∷ ns) p h =
     flat_all p (λ v. map (λ s. v ∷ s) (states ns)) (values n) (range_all (λ v. list_all p (map (λ s. v ∷ s) (states ns))) 0 n (λ v lo hi.

@@ -8,4 +8,8 @@ pub mod Joined
 pub mod Gathered
 pub mod Counted
 pub mod Turns
+pub mod Passing
 pub mod Walking
+pub mod Alike
+pub mod ModelSets
+pub mod ModelRoom

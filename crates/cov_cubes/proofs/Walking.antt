@@ -1,10 +1,11 @@
 -- The steps of the walk over the variables.
-use Rattle.std.proofs.Common.{◌≡◌, ℕ, zero, suc, ◌<◌, ◌≤◌, ◌+◌, ◌++◌, if◌then◌else◌, List, [], ◌∷◌, Bool, true, false, IsTrue, length, map, take, drop, get_or, slice_get, Some, Result, OnOk, refl, sym, ◌∙◌, ap, subst, arith}
+use Rattle.std.proofs.Common.{◌≡◌, ◌≢◌, ℕ, zero, suc, ◌<◌, ◌≤◌, ◌+◌, ◌-◌, ◌++◌, if◌then◌else◌, List, [], ◌∷◌, Bool, true, false, IsTrue, length, map, take, drop, get_or, slice_get, Some, Result, OnOk, refl, sym, ◌∙◌, ap, subst, arith}
 use Rattle.std.specs.Prelude.{flat_map, nat_lt}
 use Rattle.std.specs.List.{list_all}
 use Rattle.std.proofs.lemmas.Grind.{flat_map-append}
 use Rattle.std.proofs.lemmas.List.{append-nil, take_all, take_at, take-append-drop, drop_all}
-use Rattle.cov_bits.specs.Layout.{first}
+use Rattle.cov_model.specs.Flat.{greatest}
+use Rattle.cov_bits.specs.Layout.{first, bits, width}
 use Rattle.cov_classes.specs.Cubes.{Set, cubes, rest}
 use Rattle.cov_classes.specs.Partition.{is_typed}
 use Rattle.cov_classes.proofs.Listing.{and_split, below}
@@ -20,14 +21,16 @@ use Rattle.cov_fields.specs.Sets.{rest_set, IsEmpty}
 use Rattle.cov_cubes.specs.declared.variable.Variable.{Variable}
 use Rattle.cov_cubes.specs.declared.found.Found.{Found}
 use Rattle.cov_cubes.specs.States.{states_from}
-use Rattle.cov_cubes.specs.Rests.{IsRest, IsRestOf, IsVariable, states_of, greatest}
+use Rattle.cov_cubes.specs.Rests.{IsRest, IsRestOf, IsVariable, states_of}
 use Rattle.cov_cubes.specs.Steps.{added, behind, rests, alike, classes_by, classes_of}
+use Rattle.cov_cubes.specs.OneValue.{IsPassed, singles}
 use Rattle.cov_cubes.proofs.Sizes.{drop_next}
 use Rattle.cov_cubes.proofs.Rests.{empty_states, states_empty}
 use Rattle.cov_cubes.proofs.Firsts.{rest_next, states_next}
 use Rattle.cov_cubes.proofs.Joined.{classes_are}
 use Rattle.cov_cubes.proofs.Gathered.{cubes_of, by_classes, is_headed, all_headed}
-use Rattle.cov_cubes.proofs.Counted.{added_more, added_full, added_none, behind_append, behind_one}
+use Rattle.cov_cubes.proofs.Counted.{added_more, added_full, added_none, behind_append, behind_more, behind_first}
+use Rattle.cov_cubes.proofs.Passing.{IsBehind, passed, width_some, bits_left}
 
 -- ---- classes
 
@@ -87,6 +90,51 @@ descends old s1 ns x v n set lx lt count is e =
     subst (λ m. Descends m ns (x + 1) (set_at s1.sets n) t) levels
     (subst (λ (z : List Bool). Descends old.levels ns (x + 1) z t) at (record { rest = rest_next old.levels ns x v set lx is lt; states_are = states_next old.levels ns x v set lx is }))
 
+-- a class was entered: its rest set stands last
+pub record Entered (old s1 : SpaceOf) (ns : List ℕ) (x n : ℕ) (set : List Bool) (class : List ℕ) : Type 0 where
+  pub is : s1 ≡ with_more old (rest_set old.levels (field_of ns x V) (get_or class 0 0) set ∷ [])
+  pub down : Descends s1.levels ns (x + 1) (set_at s1.sets n) (rest (states_of old.levels ns x set) (get_or class 0 0))
+
+pub entered : (old s s1 : SpaceOf) (ns : List ℕ) (x w n k i : ℕ) (y : Variable) (cs : List (List ℕ)) (class : List ℕ) → x < length ns → length old.sets ≡ n → IsRestOf old.levels ns x (set_at old.sets k) → IsVariable ns x y
+    → cs ≡ classes_by (alike (rests old.levels y.field (set_at old.sets k) y.size) 0) y.size → slice_get cs i ≡ Some class → s ≡ old → slice_get class 0 ≡ Some w
+    → PutsSet s s1 (rest_set s.levels y.field w (set_at s.sets k)) → Entered old s1 ns x n (set_at old.sets k) class
+entered old s s1 ns x w n k i y cs class lx count is variable found at kept item puts =
+    let set : List Bool = set_at old.sets k in
+    let head : Headed (get_or ns x 0) class = class_headed (get_or ns x 0) (drop (x + 1) ns) (states_of old.levels ns x set) cs i class (classes_found old.levels ns x set y cs lx is variable found) at in
+    let e : s1 ≡ with_more old (rest_set old.levels (field_of ns x V) (get_or class 0 0) set ∷ []) = walk_put old s s1 ns x (get_or class 0 0) w k y kept variable (first_item class w item) puts in
+    record { is = e; down = descends old s1 ns x (get_or class 0 0) n set lx head.below count is e }
+
+-- the walk goes on at a variable of several values, behind the class that was entered and those of the variables of one value
+pub record GoesOn (old s1 : SpaceOf) (ns : List ℕ) (x to n : ℕ) (set : List Bool) (class : List ℕ) : Type 0 where
+  pub passed : IsPassed ns (x + 1) to
+  pub rest : IsRestOf s1.levels ns to (set_at s1.sets n)
+  pub fewer_bits : bits (drop to ns) + 1 ≤ bits (drop x ns)
+  pub cubes_are : behind (class ∷ singles (to - (x + 1))) (cubes (drop to ns) (states_of s1.levels ns to (set_at s1.sets n))) ≡ cubes_of (drop (x + 1) ns) (states_of old.levels ns x set) class
+
+-- a variable of several values has bits
+fewer_bits : (ns : List ℕ) (x : ℕ) (y : Variable) → x < length ns → get_or ns x 0 ≢ 1 → IsVariable ns x y → bits (drop (x + 1) ns) + 1 ≤ bits (drop x ns)
+fewer_bits ns x y lx several variable =
+    let size : y.size ≡ get_or ns x 0 = variable.size in
+    let some : 0 < y.size = variable.sized.0 in
+    let bit : 0 < width (get_or ns x 0) = width_some (get_or ns x 0) (omega (arith, several)) in
+    let all : bits (drop x ns) ≡ width (get_or ns x 0) + bits (drop (x + 1) ns) = bits_left ns x lx in
+    omega arith
+
+pub goes_on : (old s1 : SpaceOf) (ns ms : List ℕ) (x to n : ℕ) (y : Variable) (set : List Bool) (class : List ℕ) → ns ≡ ms → x < length ns → get_or ns x 0 ≢ 1 → IsVariable ns x y → IsPassed ms (x + 1) to
+    → Entered old s1 ns x n set class → GoesOn old s1 ns x to n set class
+goes_on old s1 ns ms x to n y set class plan lx several variable p e =
+    let own : IsPassed ns (x + 1) to = subst (λ (l : List ℕ). IsPassed l (x + 1) to) (sym plan) p in
+    let last : List Bool = set_at s1.sets n in
+    let b : IsBehind s1.levels ns (x + 1) to (to - (x + 1)) (set_at s1.sets n) = passed s1.levels ns (x + 1) to last own e.down.rest in
+    record {
+      passed = own;
+      rest = b.rest;
+      fewer_bits = subst (λ k. k + 1 ≤ bits (drop x ns)) b.bits_are (fewer_bits ns x y lx several variable);
+      cubes_are =
+          behind_first class (singles (to - (x + 1))) (cubes (drop to ns) (states_of s1.levels ns to last))
+          ∙ ap (map (λ c. class ∷ c)) (sym b.cubes_are ∙ ap (cubes (drop (x + 1) ns)) e.down.states_are);
+    }
+
 -- ---- what is found
 
 take_get : (cs : List (List ℕ)) (i : ℕ) (class : List ℕ) → slice_get cs i ≡ Some class → take (i + 1) cs ≡ take i cs ++ class ∷ []
@@ -94,25 +142,25 @@ take_get [] i class e = cc
 take_get (c ∷ cs) zero class e = let same : c ≡ class = cc in ap (λ (k : List ℕ). k ∷ []) same
 take_get (c ∷ cs) (suc i) class e = let next : suc i + 1 ≡ suc (i + 1) = omega arith in ap (λ k. take k (c ∷ cs)) next ∙ ap (λ (l : List (List ℕ)). c ∷ l) (take_get cs i class e)
 
-pub walk_turn : (old cur ent new : Found) (front : List (List ℕ)) (f : List ℕ → List (List (List ℕ))) (cs : List (List ℕ)) (i before : ℕ) (class : List ℕ) (xs : List (List (List ℕ)))
+pub walk_turn : (old cur ent new : Found) (front : List (List ℕ)) (f : List ℕ → List (List (List ℕ))) (cs : List (List ℕ)) (i before : ℕ) (class : List ℕ) (more : List (List ℕ)) (xs : List (List (List ℕ)))
     → slice_get cs i ≡ Some class → before ≡ length old.front
     → cur ≡ record old { list = added old.limit old.list (behind old.front (flat_map f (take i cs))) }
-    → ent ≡ record cur { front = cur.front ++ class ∷ [] }
+    → ent ≡ record cur { front = cur.front ++ more }
     → new ≡ record ent { list = added ent.limit ent.list (behind ent.front xs) }
     → front ≡ take before new.front
-    → map (λ c. class ∷ c) xs ≡ f class
+    → behind more xs ≡ f class
     → ◌≡◌ {A = Found} (record { front = front; limit = new.limit; list = new.list }) (record old { list = added old.limit old.list (behind old.front (flat_map f (take (i + 1) cs))) })
-walk_turn old cur ent new front f cs i before class xs at count is_cur is_ent is_new is_front made =
+walk_turn old cur ent new front f cs i before class more xs at count is_cur is_ent is_new is_front made =
     let so_far : List (List (List ℕ)) = behind old.front (flat_map f (take i cs)) in
-    let whole : new ≡ record { front = old.front ++ class ∷ []; limit = old.limit; list = added old.limit (added old.limit old.list so_far) (behind (old.front ++ class ∷ []) xs) } =
-    is_new ∙ ap (λ (e : Found). record e { list = added e.limit e.list (behind e.front xs) }) (is_ent ∙ ap (λ (e : Found). record e { front = e.front ++ class ∷ [] }) is_cur) in
-    let more : behind (old.front ++ class ∷ []) xs ≡ behind old.front (f class) = behind_one old.front class xs ∙ ap (behind old.front) made in
+    let whole : new ≡ record { front = old.front ++ more; limit = old.limit; list = added old.limit (added old.limit old.list so_far) (behind (old.front ++ more) xs) } =
+    is_new ∙ ap (λ (e : Found). record e { list = added e.limit e.list (behind e.front xs) }) (is_ent ∙ ap (λ (e : Found). record e { front = e.front ++ more }) is_cur) in
+    let later : behind (old.front ++ more) xs ≡ behind old.front (f class) = behind_more old.front more xs ∙ ap (behind old.front) made in
     let next : flat_map f (take i cs) ++ f class ≡ flat_map f (take (i + 1) cs) =
     sym (ap (flat_map f) (take_get cs i class at) ∙ flat_map-append f (take i cs) (class ∷ []) ∙ ap (λ (l : List (List (List ℕ))). flat_map f (take i cs) ++ l) (append-nil (f class))) in
     ap (λ (l : List (List ℕ)). record { front = l; limit = new.limit; list = new.list }) is_front
     ∙ ap (λ (e : Found). record { front = take before e.front; limit = e.limit; list = e.list }) whole
-    ∙ ap (λ (l : List (List ℕ)). record { front = l; limit = old.limit; list = added old.limit (added old.limit old.list so_far) (behind (old.front ++ class ∷ []) xs) }) (take_at old.front (class ∷ []) before (sym count))
-    ∙ ap (λ (l : List (List (List ℕ))). record old { list = added old.limit (added old.limit old.list so_far) l }) more
+    ∙ ap (λ (l : List (List ℕ)). record { front = l; limit = old.limit; list = added old.limit (added old.limit old.list so_far) (behind (old.front ++ more) xs) }) (take_at old.front more before (sym count))
+    ∙ ap (λ (l : List (List (List ℕ))). record old { list = added old.limit (added old.limit old.list so_far) l }) later
     ∙ ap (λ l. record old { list = l }) (added_more old.limit old.list so_far (behind old.front (f class)) ∙ ap (added old.limit old.list) (sym (behind_append old.front (flat_map f (take i cs)) (f class)) ∙ ap (behind old.front) next))
 
 -- the limit is passed
@@ -154,17 +202,3 @@ walk_last res levels ns x set old new le is open' few empty some =
     by true e own =
         on_ok_map res (new ≡ record old { list = added old.limit old.list (old.front ∷ []) }) _ (λ h. h ∙ ap (λ (l : List (List ℕ)). record old { list = added old.limit old.list (l ∷ []) }) (sym (append-nil old.front))
         ∙ ap (λ b. record old { list = added old.limit old.list (behind old.front (if b then [] ∷ [] else [])) }) (sym e)) (some (λ no_row. let f : states_from (first ns x) [] levels set [] ≡ false = empty_states levels (first ns x) [] set own no_row [] in absurd (cc)))
-
--- a class was entered: its rest set stands last
-pub record Entered (old s1 : SpaceOf) (ns : List ℕ) (x n : ℕ) (set : List Bool) (class : List ℕ) : Type 0 where
-  pub is : s1 ≡ with_more old (rest_set old.levels (field_of ns x V) (get_or class 0 0) set ∷ [])
-  pub down : Descends s1.levels ns (x + 1) (set_at s1.sets n) (rest (states_of old.levels ns x set) (get_or class 0 0))
-
-pub entered : (old s s1 : SpaceOf) (ns : List ℕ) (x w n k i : ℕ) (y : Variable) (cs : List (List ℕ)) (class : List ℕ) → x < length ns → length old.sets ≡ n → IsRestOf old.levels ns x (set_at old.sets k) → IsVariable ns x y
-    → cs ≡ classes_by (alike (rests old.levels y.field (set_at old.sets k) y.size) 0) y.size → slice_get cs i ≡ Some class → s ≡ old → slice_get class 0 ≡ Some w
-    → PutsSet s s1 (rest_set s.levels y.field w (set_at s.sets k)) → Entered old s1 ns x n (set_at old.sets k) class
-entered old s s1 ns x w n k i y cs class lx count is variable found at kept item puts =
-    let set : List Bool = set_at old.sets k in
-    let head : Headed (get_or ns x 0) class = class_headed (get_or ns x 0) (drop (x + 1) ns) (states_of old.levels ns x set) cs i class (classes_found old.levels ns x set y cs lx is variable found) at in
-    let e : s1 ≡ with_more old (rest_set old.levels (field_of ns x V) (get_or class 0 0) set ∷ []) = walk_put old s s1 ns x (get_or class 0 0) w k y kept variable (first_item class w item) puts in
-    record { is = e; down = descends old s1 ns x (get_or class 0 0) n set lx head.below count is e }

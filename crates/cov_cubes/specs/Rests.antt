@@ -1,5 +1,5 @@
 -- What is left of a set of states once the places of the first variables are fixed.
-use Rattle.std.specs.Prelude.{◌≡◌, ℕ, ◌+◌, ◌*◌, ◌≤◌, ◌<◌, List, [], ◌∷◌, ◌++◌, Bool, length, drop, get_or, max, IsTrue, Option, Some, None}
+use Rattle.std.specs.Prelude.{◌≡◌, ℕ, ◌+◌, ◌*◌, ◌≤◌, ◌<◌, List, ◌++◌, Bool, length, drop, get_or, IsTrue, Option, Some, None}
 use Rattle.cov_classes.specs.Cubes.{Set}
 use Rattle.cov_bits.specs.Layout.{bits, first, are_places, IsSize}
 use Rattle.cov_cubes.specs.declared.variable.Variable.{Variable}
@@ -31,11 +31,6 @@ pub record IsVariable (ns : List ℕ) (var : ℕ) (y : Variable) : Type 0 where
   pub fits : IsField (3 * bits ns) y.field
   pub size : y.size ≡ get_or ns var 0
   pub sized : IsSize y.size
-
--- the greatest number of values
-abbrev pub greatest : List ℕ → ℕ
-greatest [] = 0
-greatest (n ∷ ns) = max n (greatest ns)
 
 -- none of the first values has a rest set with a row
 abbrev pub AllEmpty : ℕ → Field → List Bool → ℕ → Type 0

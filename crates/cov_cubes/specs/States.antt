@@ -6,7 +6,8 @@ use Rattle.cov_space.specs.declared.layer.Layer.TheVariants.{W, V, N}
 use Rattle.cov_space.specs.Sets.{lies}
 use Rattle.cov_space.specs.Layers.{place_of, IgnoresLayer}
 use Rattle.cov_fields.specs.declared.field.Field.{Field}
-use Rattle.cov_fields.specs.Fields.{held, written, put_bits}
+use Rattle.cov_fields.specs.Fields.{written, put_bits}
+use Rattle.cov_places.specs.Places.{places_from}
 
 -- the field of a variable on layer V, by its first bit and the number of its values
 abbrev pub present : ℕ → ℕ → Field
@@ -33,8 +34,7 @@ states_in ns levels set = states_from 0 ns levels set
 
 -- the place of each variable that a row holds on layer V, from a first bit on
 abbrev pub places_at : ℕ → List ℕ → List Bool → List ℕ
-places_at first [] r = []
-places_at first (n ∷ ns) r = held (present first n) r ∷ places_at (first + width n) ns r
+places_at first ns r = places_from V first ns r
 
 -- a set of rows that is a set of typed states: it depends on layer V alone, and each of its rows holds places of the variables there
 pub record IsStateSet (ns : List ℕ) (levels : ℕ) (set : List Bool) : Type 0 where

@@ -76,7 +76,7 @@ fn first_steps(
 }
 
 /// The least state of the set by value places, the first variable counting most. None exactly where the set is empty.
-pub fn first(
+pub(crate) fn first_in(
     alloc: Global,
     m: &Model,
     plan: &Plan,

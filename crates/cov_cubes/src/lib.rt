@@ -6,9 +6,10 @@ mod found;
 mod laws;
 mod least;
 mod listing;
+mod of_model;
+mod singles;
 mod variable;
 mod walk;
 
-pub use laws::rows_are_those_of_codes;
-pub use least::first;
-pub use listing::cubes;
+pub use laws::{rows_are_those_of_codes, sets_of_a_model};
+pub use of_model::{cubes, first};

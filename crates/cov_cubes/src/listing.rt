@@ -1,14 +1,15 @@
 ghost use Rattle.std.specs.Prelude.{◌≡◌, ◌<◌, ◌≤◌, ◌+◌, ◌*◌, length, take, nat_lt, IsTrue, IfOk, IfErr, OnOk};
 ghost use Rattle.std.specs.List.{list_all};
+ghost use Rattle.cov_model.specs.Flat.{greatest};
 ghost use Rattle.cov_bits.specs.Layout as layout;
 ghost use Rattle.cov_classes.specs.Cubes as classes;
 ghost use Rattle.cov_classes.specs.Partition.{is_cube};
 ghost use Rattle.cov_space.specs.Sets.{set_at, HasRoom};
 ghost use Rattle.cov_space.specs.Answers.{IsCallFault};
 ghost use Rattle.cov_cubes.specs.States.{states_in, IsStateSet};
-ghost use Rattle.cov_cubes.specs.Rests.{greatest};
 
 use crate::found::Found;
+use crate::singles::enter_singles;
 use crate::walk::walk;
 use cov_bits::Plan;
 use cov_model::{CubeList, Model};
@@ -17,7 +18,7 @@ use cov_syntax::Seq;
 use std::alloc::Global;
 
 /// The first cubes of the set, at most as many as the limit, and whether there are others.
-pub fn cubes(
+pub(crate) fn cubes_in(
     alloc: Global,
     m: &Model,
     plan: &Plan,
@@ -29,7 +30,7 @@ pub fn cubes(
     requires levels { sp.old.levels ≡ 3 * layout.bits plan.now }
     requires set { set < length sp.old.sets }
     requires states { IsStateSet plan.now sp.old.levels (set_at sp.old.sets set) }
-    requires room { HasRoom sp.old (greatest plan.now + length plan.now + 6) }
+    requires room { HasRoom sp.old (greatest plan.now + layout.bits plan.now + 6) }
     ensures cubes { IfOk result (λ l. l.cubes ≡ take limit (classes.cubes plan.now (states_in plan.now sp.old.levels (set_at sp.old.sets set)))) }
     ensures more { IfOk result (λ l. l.more ≡ nat_lt limit (length (classes.cubes plan.now (states_in plan.now sp.old.levels (set_at sp.old.sets set))))) }
     ensures proper { IfOk result (λ l. IsTrue (list_all (is_cube plan.now) l.cubes)) }
@@ -45,7 +46,10 @@ pub fn cubes(
             more: false,
         },
     };
-    match walk(alloc, m, plan, sp, set, 0, &mut found) {
+    let Ok(x) = enter_singles(alloc, m, 0, &mut found) else {
+        return Err(SpaceFault::Memory);
+    };
+    match walk(alloc, m, plan, sp, set, x, &mut found) {
         Ok(()) => {
             let Found {
                 front: _,

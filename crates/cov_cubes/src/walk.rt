@@ -1,14 +1,16 @@
-ghost use Rattle.std.specs.Prelude.{◌≡◌, ◌<◌, ◌≤◌, ◌+◌, ◌-◌, ◌*◌, ◌∷◌, [], length, drop, false, IfErr, OnOk};
+ghost use Rattle.std.specs.Prelude.{◌≡◌, ◌≢◌, ◌<◌, ◌≤◌, ◌+◌, ◌*◌, ◌∷◌, [], length, drop, get_or, false, IfErr, OnOk};
+ghost use Rattle.cov_model.specs.Flat.{greatest};
 ghost use Rattle.cov_bits.specs.Layout as layout;
 ghost use Rattle.cov_classes.specs.Cubes as classes;
 ghost use Rattle.cov_space.specs.Sets.{set_at, HasRoom};
 ghost use Rattle.cov_space.specs.Steps.{Leaves};
 ghost use Rattle.cov_fields.specs.Sets.{IsEmpty};
-ghost use Rattle.cov_cubes.specs.Rests.{IsRestOf, states_of, greatest};
+ghost use Rattle.cov_cubes.specs.Rests.{IsRestOf, states_of};
 ghost use Rattle.cov_cubes.specs.Steps.{added, behind};
 
 use crate::classes::find_classes;
-use crate::found::{Found, add, enter};
+use crate::found::{Found, add};
+use crate::singles::enter_with_singles;
 use crate::variable::variable_at;
 use cov_bits::Plan;
 use cov_fields::{is_empty, restrict_to};
@@ -35,7 +37,8 @@ fn add_last(alloc: Global, sp: &mut Space, set: Slot, found: &mut Found) -> Resu
     Ok(())
 }
 
-/// Adds the cubes of a rest set of the variables from one on, behind the classes of those before.
+/// Adds the cubes of a rest set of the variables from one with bits on, behind the classes of those before. It calls itself
+/// at variables with bits alone, so at most 60 deep.
 pub(crate) fn walk(
     alloc: Global,
     m: &Model,
@@ -48,9 +51,10 @@ pub(crate) fn walk(
     requires plan { plan.now ≡ layout.sizes m.now.vars }
     requires levels { sp.old.levels ≡ 3 * layout.bits plan.now }
     requires place { x ≤ length plan.now }
+    requires bits { x < length plan.now → get_or plan.now x 0 ≢ 1 }
     requires set { set < length sp.old.sets }
     requires rest { IsRestOf sp.old.levels plan.now x (set_at sp.old.sets set) }
-    requires room { HasRoom sp.old (greatest plan.now + (length plan.now - x) + 6) }
+    requires room { HasRoom sp.old (greatest plan.now + layout.bits (drop x plan.now) + 6) }
     requires open { found.old.list.more ≡ false }
     requires few { length found.old.list.cubes ≤ found.old.limit }
     ensures ok { OnOk result (found.new ≡ record found.old { list = added found.old.limit found.old.list (behind found.old.front (classes.cubes (drop x plan.now) (states_of sp.old.levels plan.now x (set_at sp.old.sets set)))) }) }
@@ -69,10 +73,10 @@ pub(crate) fn walk(
     for i in 0..classes.len() {
         let class = classes.get(i);
         restrict_to(sp, set, y.field, *class.get(0))?;
-        if enter(alloc, class, found).is_err() {
+        let Ok(next) = enter_with_singles(alloc, m, class, x + 1, found) else {
             return Err(SpaceFault::Memory);
-        }
-        walk(alloc, m, plan, sp, n, x + 1, found)?;
+        };
+        walk(alloc, m, plan, sp, n, next, found)?;
         found.front.cut(before);
         sp.cut(n);
         if found.list.more {
