@@ -1,0 +1,62 @@
+ghost use Rattle.std.specs.Prelude.{◌≡◌};
+ghost use Rattle.cov_words.specs.Words as spec;
+
+use cov_syntax::{NoMemory, Text};
+
+/// The numbers of a job's options.
+#[derive(Clone, Copy, Debug, PartialEq, Eq)]
+pub struct Opts {
+    /// How many nodes the table of diagrams may hold, from 1 to 16,000,000.
+    pub nodes: u32,
+    /// How many cubes of a set are printed at most, from 1 to 100,000.
+    pub cubes: u32,
+}
+
+/// What the words ask for: a command, the file of its model, and its options.
+#[derive(Drop)]
+pub enum Job {
+    Init { model: Text, opts: Opts },
+    Reach { model: Text, opts: Opts },
+    Check { model: Text, opts: Opts },
+}
+
+impl Job {
+    /// The name of the model's file.
+    pub fn model(&self) -> &[u8]
+        ensures { result.now ≡ spec.model_name self.now }
+    {
+        match self {
+            Job::Init { model, opts: _ } => model.as_slice(),
+            Job::Reach { model, opts: _ } => model.as_slice(),
+            Job::Check { model, opts: _ } => model.as_slice(),
+        }
+    }
+
+    /// The numbers of its options, those that are not given by their defaults.
+    pub fn opts(&self) -> Opts
+        ensures { result ≡ spec.opts_of self.now }
+    {
+        match self {
+            Job::Init { model: _, opts } => *opts,
+            Job::Reach { model: _, opts } => *opts,
+            Job::Check { model: _, opts } => *opts,
+        }
+    }
+}
+
+/// Why the words ask for nothing.
+#[derive(Clone, Copy, Debug, PartialEq, Eq)]
+pub enum WordsFault {
+    Words,
+    Memory,
+}
+
+impl From<NoMemory> for WordsFault {
+    ghost use Rattle.cov_words.specs.declared.job.WordsFault.TheVariants.{Memory};
+
+    ghost from_gives = { λ _ e. e ≡ Memory };
+
+    fn from(_: NoMemory) -> WordsFault {
+        WordsFault::Memory
+    }
+}

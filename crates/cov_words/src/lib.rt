@@ -1,0 +1,14 @@
+//! The words of the command line, and what they ask for.
+#![tactic(auto)]
+
+mod brief;
+mod job;
+mod number;
+mod options;
+mod read;
+mod sort;
+#[cfg(test)]
+mod tests;
+
+pub use job::{Job, Opts, WordsFault};
+pub use read::read_words;

@@ -1,0 +1,94 @@
+use crate::{Job, Opts, WordsFault, read_words};
+use std::alloc::{AllocError, Global};
+use std::test::Fail;
+
+/// A command, its model, and the numbers of its options.
+type Asked = (&'static str, &'static str, u32, u32);
+
+/// The words of a line, and what they ask for.
+const ROWS: [(&str, Option<Asked>); 24] = [
+    ("init M", Some(("init", "M", 1_000_000, 200))),
+    ("reach M --nodes 5000", Some(("reach", "M", 5000, 200))),
+    ("reach --nodes=5000 M", Some(("reach", "M", 5000, 200))),
+    ("reach M --cubes 7 --nodes=1", Some(("reach", "M", 1, 7))),
+    (
+        "reach --cubes 100000 M",
+        Some(("reach", "M", 1_000_000, 100_000)),
+    ),
+    (
+        "check M --nodes 16000000",
+        Some(("check", "M", 16_000_000, 200)),
+    ),
+    ("check -- -M", Some(("check", "-M", 1_000_000, 200))),
+    ("init M --nodes 000000012", Some(("init", "M", 12, 200))),
+    (
+        "reach --nodes 9 -- --nodes",
+        Some(("reach", "--nodes", 9, 200)),
+    ),
+    ("init M --nodes 0000000012", None),
+    ("cover M", None),
+    ("init", None),
+    ("init M N", None),
+    ("init -- M N", None),
+    ("init M --nodes 0", None),
+    ("init M --nodes 16000001", None),
+    ("init M --nodes 1 --nodes 2", None),
+    ("init M --nodes=", None),
+    ("init M --nodes 1x", None),
+    ("init M --nodes +1", None),
+    ("check M --cubes 3", None),
+    ("reach M --cubes 100001", None),
+    ("reach M --cubes", None),
+    ("reach M --node 5", None),
+];
+
+fn words(alloc: Global, line: &str) -> Result<Vec<String>, AllocError> {
+    let mut words = Vec::new(alloc);
+    for word in line.split(' ') {
+        words.push(String::from_str(alloc, word)?)?;
+    }
+    Ok(words)
+}
+
+fn command(job: &Job) -> &'static str {
+    match job {
+        Job::Init { model: _, opts: _ } => "init",
+        Job::Reach { model: _, opts: _ } => "reach",
+        Job::Check { model: _, opts: _ } => "check",
+    }
+}
+
+fn is_asked(job: &Job, asked: Asked) -> bool {
+    let (name, model, nodes, cubes) = asked;
+    command(job) == name && job.model() == model.as_bytes() && job.opts() == Opts { nodes, cubes }
+}
+
+fn asks_for(alloc: Global, line: &str, asked: Option<Asked>) -> Result<bool, AllocError> {
+    let words = words(alloc, line)?;
+    Ok(match read_words(alloc, words.as_slice()) {
+        Ok(job) => match asked {
+            Some(asked) => is_asked(&job, asked),
+            None => false,
+        },
+        Err(fault) => fault == WordsFault::Words && asked.is_none(),
+    })
+}
+
+#[test]
+fn words_ask_for_a_job_or_are_refused(rt: HostRuntime) -> Result<(), Fail> {
+    for (line, asked) in ROWS {
+        assert!(rt; asks_for(rt.alloc(), line, asked)?, "{line}");
+    }
+    Ok(())
+}
+
+#[test]
+fn no_words_ask_for_nothing(rt: HostRuntime) {
+    let none = Vec::new(rt.alloc());
+    assert!(rt;
+        matches!(
+            read_words(rt.alloc(), none.as_slice()),
+            Err(WordsFault::Words)
+        )
+    );
+}
