@@ -1,8 +1,6 @@
 use crate::runs::{Given, expect};
 use std::test::Fail;
 
-const USAGE: &str = "usage: covsmv COMMAND MODEL [SIGNAL..] [OPTIONS]\n";
-
 #[test]
 fn initial_states(rt: HostRuntime) -> Result<(), Fail> {
     for (model, report) in [
@@ -36,6 +34,15 @@ fn initial_states(rt: HostRuntime) -> Result<(), Fail> {
             "MODULE main -- a comment\nVAR c : boolean;\r\n\tINIT TRUE",
             "initial\n  all\n",
         ),
+        ("MODULE main VAR a : {x, y};", "initial\n  all\n"),
+        (
+            "MODULE main VAR a : 1..3; b : {x, y}; ASSIGN init(a) := {1, 3}; INIT a = 3 -> b = x",
+            "initial\n  a=1\n  a=3,b=x\n",
+        ),
+        (
+            "MODULE main VAR a : boolean; b : boolean; c : boolean; d : boolean; e : boolean; f : boolean; g : boolean; INIT !(a & g)",
+            "initial\n  a=FALSE\n  a=TRUE,g=FALSE\n",
+        ),
     ] {
         expect(
             &rt,
@@ -47,39 +54,6 @@ fn initial_states(rt: HostRuntime) -> Result<(), Fail> {
         )?;
     }
     Ok(())
-}
-
-#[test]
-fn words_that_are_no_job(rt: HostRuntime) -> Result<(), Fail> {
-    let none: [&str; 0] = [];
-    let model = "MODULE main VAR";
-    expect(&rt, rt.alloc(), Given::of(&none, model), 2, "", USAGE)?;
-    expect(&rt, rt.alloc(), Given::of(&["init"], model), 2, "", USAGE)?;
-    expect(
-        &rt,
-        rt.alloc(),
-        Given::of(&["frob", "M"], model),
-        2,
-        "",
-        USAGE,
-    )?;
-    expect(
-        &rt,
-        rt.alloc(),
-        Given::of(&["init", "-M"], model),
-        2,
-        "",
-        USAGE,
-    )?;
-    expect(
-        &rt,
-        rt.alloc(),
-        Given::of(&["init", "M", "N"], model),
-        2,
-        "",
-        USAGE,
-    )?;
-    expect(&rt, rt.alloc(), Given::of(&["--help"], model), 2, "", USAGE)
 }
 
 #[test]
@@ -100,7 +74,6 @@ fn texts_with_a_fault(rt: HostRuntime) -> Result<(), Fail> {
             "MODULE main FROZENVAR a : boolean;",
             "model: LeftOut at 1:13 FROZENVAR\n",
         ),
-        ("MODULE main VAR a : {x, y};", "model: NotBuilt at 1:1\n"),
         (
             "MODULE main VAR a : boolean; a : boolean;",
             "model: DuplicateName at 1:30\n",
@@ -110,10 +83,6 @@ fn texts_with_a_fault(rt: HostRuntime) -> Result<(), Fail> {
             "model: UnknownName at 1:35\n",
         ),
         ("MODULE m VAR a : boolean;", "model: NoMain at 1:1\n"),
-        (
-            "MODULE main VAR a : boolean; b : boolean; c : boolean; d : boolean; e : boolean; f : boolean; g : boolean;",
-            "model: NotBuilt at 1:1\n",
-        ),
     ] {
         expect(
             &rt,

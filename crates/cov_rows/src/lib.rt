@@ -2,6 +2,8 @@
 #![tactic(auto)]
 
 #[cfg(test)]
+mod budgets;
+#[cfg(test)]
 mod check;
 #[cfg(test)]
 mod failures;
@@ -13,3 +15,7 @@ mod init;
 mod readings;
 #[cfg(test)]
 mod runs;
+#[cfg(test)]
+mod states;
+#[cfg(test)]
+mod words;

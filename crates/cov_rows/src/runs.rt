@@ -1,6 +1,7 @@
 //! A run over files and sinks in memory.
 
 use cov_io::{MemFiles, MemSink};
+use cov_space::Meter;
 use cov_top::{Status, run};
 use std::alloc::Global;
 use std::process::Abort;
@@ -51,7 +52,15 @@ pub(crate) fn expect(
     out.fail_at(given.failing_put)?;
     let mut err = MemSink::new(alloc, given.most.max(1));
     err.fail_at(given.failing_line)?;
-    let found: Status = run(alloc, words.as_slice(), &mut files, &mut out, &mut err);
+    let mut meter = Meter::new();
+    let found: Status = run(
+        alloc,
+        words.as_slice(),
+        &mut files,
+        &mut out,
+        &mut err,
+        &mut meter,
+    );
     assert_eq!(rt; out.bytes(), report.as_bytes());
     assert_eq!(rt; err.bytes(), line.as_bytes());
     assert_eq!(rt; found.code(), status);

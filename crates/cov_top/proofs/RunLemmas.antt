@@ -1,20 +1,28 @@
 -- Lemmas on the causes of a run's answers.
-use Rattle.std.proofs.Common.{◌≡◌, ℕ, Bool, ◌<◌, List, [], Option, Some, None, length, Err, IsTrue, refl, inl, inr, subst}
+use Rattle.std.proofs.Common.{◌≡◌, ℕ, Bool, ◌<◌, List, [], Option, Some, None, length, Err, IsTrue, refl, sym, inl, inr, subst}
 use Rattle.std.proofs.lemmas.Bool.{lt-ltb}
-use Rattle.cov_io.specs.Outside.{Table}
+use Rattle.cov_io.specs.Outside.{Table, IsFile}
 use Rattle.cov_syntax.specs.Tokens as spec
 use Rattle.cov_syntax.specs.declared.program.Program.{Program}
 use Rattle.cov_model.specs.declared.model.Model as models
 use Rattle.cov_top.specs.Transfer.{IsLonger}
 use Rattle.cov_top.specs.Reading.{IsTextFault}
 use Rattle.cov_top.specs.Serving.{serves}
-use Rattle.cov_top.specs.Refusal.{IsCause, IsRefusal, file_too_long}
-use Rattle.cov_top.specs.Words.{model_name}
+use Rattle.cov_space.specs.Meters.{MeterOf}
+use Rattle.cov_top.specs.Refusal.{IsCause, IsRefusal, IsUnread, file_too_long}
+use Rattle.cov_words.specs.Words.{model_name}
 use Rattle.cov_top.specs.Run.{IsAcceptedFile, IsFaultOf, IsInputFault, IsJobReport, IsPlace, IsRefusedFile, IsReportOn, IsServed, IsTextReport}
-use Rattle.cov_top.specs.declared.words.Job.{Job}
-use Rattle.cov_top.specs.declared.words.Job.TheVariants.{Init, Check}
-use Rattle.cov_top.specs.declared.program.Refusal.{Refusal}
-use Rattle.cov_top.specs.declared.status.Status.TheVariants.{Input}
+use Rattle.cov_words.specs.declared.job.Job.{Job}
+use Rattle.cov_words.specs.declared.job.Job.TheVariants.{Init, Reach, Check}
+use Rattle.cov_top.specs.declared.refusal.Refusal.{Refusal}
+use Rattle.cov_space.specs.declared.fault.NodesFull.{NodesFull}
+use Rattle.cov_top.specs.Nodes.{IsJobShort, KeepsMeter}
+use Rattle.cov_top.specs.Stops.{IsTextStop}
+use Rattle.cov_top.specs.declared.refusal.NoReport.{NoReport}
+use Rattle.cov_top.specs.declared.refusal.NoReport.TheVariants as no_report
+use Rattle.cov_syntax.specs.declared.fault.ModelFault.{ModelFault}
+use Rattle.cov_top.specs.declared.status.Status.TheVariants.{Input, Nodes, Memory}
+use Rattle.cov_top.specs.declared.status.Status.{Status}
 use Rattle.cov_top.specs.declared.status.InputFault.{InputFault}
 use Rattle.cov_top.specs.declared.status.InputFault.TheVariants.{Model}
 
@@ -38,18 +46,41 @@ place-longer None j h = ([], tt, refl, refl, refl)
 place-longer (Some files) j h = (h.0, (h.1, refl), refl, refl, refl)
 
 -- the refusal of a file with more bytes than the limit has its cause and its place
-pub refusal-longer : (told : Option Table) (before now : ℕ) (j : Job) (name : List ℕ) (r : Refusal) → r ≡ too_long → IsLonger told name 1048576 → name ≡ model_name j
-    → IsRefusal told before now (Some j) r
-refusal-longer told before now j name r is h e =
-    rw is (record { cause = input-longer told j (rw e at h); place = place-longer told j (rw e at h) })
+pub refusal-longer : (told : Option Table) (before now : ℕ) (j : Job) (old new : MeterOf) (name : List ℕ) (r : Refusal) → r ≡ too_long → IsLonger told name 1048576 → name ≡ model_name j
+    → new ≡ old → IsRefusal told before now (Some j) old new r
+refusal-longer told before now j old new name r is h e kept =
+    rw is (record { cause = input-longer told j (rw e at h); meter = kept; place = place-longer told j (rw e at h) })
+
+-- a refusal by its status
+by-status : (told : Option Table) (before now : ℕ) (j : Option Job) (old new : MeterOf) (r : Refusal) (s : Status) → r.status ≡ s
+    → IsCause told before now j old new s → KeepsMeter s old new → IsPlace told j s r.position.line r.position.column r.word → IsRefusal told before now j old new r
+by-status told before now j old new r s e cause meter place = record {
+  cause = subst (λ t. IsCause told before now j old new t) (sym e) cause;
+  meter = subst (λ t. KeepsMeter t old new) (sym e) meter;
+  place = subst (λ t. IsPlace told j t r.position.line r.position.column r.word) (sym e) place;
+}
+
+input-fault : (told : Option Table) (j : Job) (bytes : List ℕ) (f : ModelFault) → IsFile told (model_name j) (Some bytes) → IsFaultOf j bytes f → IsInputFault told (Some j) (Model f)
+input-fault None j bytes f file h = tt
+input-fault (Some files) j bytes f file h = (bytes, file.0, h)
+
+-- the refusal of a text that has no report, which is the whole file of the job
+pub refusal-unread : (told : Option Table) (before now : ℕ) (j : Job) (old new : MeterOf) (bytes : List ℕ) (reason : NoReport) (r : Refusal)
+    → IsFile told (model_name j) (Some bytes) → IsUnread bytes reason r → IsTextStop j bytes old new reason → IsRefusal told before now (Some j) old new r
+refusal-unread told before now j old new bytes (no_report.Fault f) r file is stop =
+    by-status told before now (Some j) old new r (Input (Model f)) is.0 (input-fault told j bytes f file stop.0) stop.1 (bytes, file, is.1, is.2, is.3)
+refusal-unread told before now j old new bytes (no_report.Nodes full) r file is stop =
+    by-status told before now (Some j) old new r (Nodes full) is (record { bytes = bytes; file = file; text = stop }) tt tt
+refusal-unread told before now j old new bytes no_report.Memory r file is stop = by-status told before now (Some j) old new r Memory is tt stop tt
 
 same_bytes : (o : Option (List ℕ)) (a b : List ℕ) → o ≡ Some a → o ≡ Some b → a ≡ b
 same_bytes o a b e f = cc
 
 -- what has a report is served
-served : (j : Job) (p : Program) (m : models.Model) (passes : Bool) (text : List ℕ) → IsReportOn j p m passes text → IsTrue (serves j p m)
-served (Init name) p m passes text r = r.0
-served (Check name) p m passes text r = rw (r.1) refl
+served : (j : Job) (p : Program) (m : models.Model) (passes : Bool) (text : List ℕ) → IsReportOn j p m passes text → IsTrue (serves j p)
+served (Init name opts) p m passes text r = refl
+served (Reach name opts) p m passes text r = refl
+served (Check name opts) p m passes text r = rw (r.1) refl
 
 reported : (j : Job) (bytes : List ℕ) (passes : Bool) (text : List ℕ) → IsTextReport j bytes passes text → IsServed j bytes
 reported j bytes passes text r = record { program = r.program; model = r.model; accepted = r.accepted; served = served j r.program r.model passes text r.is }
@@ -67,10 +98,15 @@ served-fault j bytes s f (inl t) = t.refused s.program s.model s.accepted
 served-fault j bytes s f (inr n) = let unserved = n.0.unserved s.program s.model s.accepted in let yes = s.served in absurd cc
 
 -- a file that is accepted as a model that the job serves has no fault
-accepted-fault : (told : Option Table) (j : Option Job) (f : InputFault) → IsAcceptedFile told j → IsInputFault told j f → ⊥
+pub accepted-fault : (told : Option Table) (j : Option Job) (f : InputFault) → IsAcceptedFile told j → IsInputFault told j f → ⊥
 accepted-fault told None f h r = h
 accepted-fault None (Some j) f h r = h
 accepted-fault (Some files) (Some j) (Model f) h r = served-fault j r.0 (subst (λ b. IsServed j b) (same_bytes _ h.0 r.0 h.1 r.1) h.2) f r.2
 
-pub accepted-refusal : (told : Option Table) (before now : ℕ) (j : Option Job) (r : Refusal) → IsAcceptedFile told j → IsRefusal told before now j r → (f : InputFault) → r.status ≡ Input f → ⊥
-accepted-refusal told before now j r h is f e = accepted-fault told j f h (subst (λ s. IsCause told before now j s) e is.cause)
+pub accepted-refusal : (told : Option Table) (before now : ℕ) (j : Option Job) (old new : MeterOf) (r : Refusal) → IsAcceptedFile told j → IsRefusal told before now j old new r → (f : InputFault) → r.status ≡ Input f → ⊥
+accepted-refusal told before now j old new r h is f e = accepted-fault told j f h (subst (λ s. IsCause told before now j old new s) e is.cause)
+
+-- a refusal on nodes has its cause
+pub short-refusal : (told : Option Table) (before now : ℕ) (j : Option Job) (old new : MeterOf) (r : Refusal) → IsRefusal told before now j old new r → (full : NodesFull) → r.status ≡ Nodes full
+    → IsJobShort told j old new full
+short-refusal told before now j old new r is full e = subst (λ s. IsCause told before now j old new s) e is.cause

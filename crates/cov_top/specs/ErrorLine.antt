@@ -4,9 +4,10 @@ use Rattle.cov_syntax.specs.declared.words.Word.{Word}
 use Rattle.cov_syntax.specs.Words.{word_spelling}
 use Rattle.cov_syntax.specs.Faults.{name_of}
 use Rattle.cov_io.specs.Outside.{Rose, Gains}
+use Rattle.cov_space.specs.declared.fault.NodesFull.{NodesFull}
 use Rattle.cov_top.specs.Transfer.{GainsPart}
 use Rattle.cov_top.specs.declared.status.Status.{Status}
-use Rattle.cov_top.specs.declared.status.Status.TheVariants.{Done, Fails, Words, Input, Read, Write, Memory}
+use Rattle.cov_top.specs.declared.status.Status.TheVariants.{Done, Fails, Words, Input, Read, Write, Nodes, Memory}
 use Rattle.cov_top.specs.declared.status.InputFault.TheVariants.{Model}
 
 -- a space and a word, where there is one
@@ -18,6 +19,10 @@ behind_space (Some w) = codes " " ++ word_spelling w
 abbrev pub model_line : ℕ → ℕ → ℕ → Option Word → List ℕ
 model_line code line column word = codes "model: " ++ name_of code ++ codes " at " ++ decimal line ++ codes ":" ++ decimal column ++ behind_space word ++ codes "\n"
 
+-- the line on nodes that ran out: how many stood, how many may, and how many sets were kept
+abbrev pub nodes_line : NodesFull → List ℕ
+nodes_line full = codes "nodes: held " ++ decimal full.held ++ codes ", budget " ++ decimal full.budget ++ codes ", roots " ++ decimal full.roots ++ codes "\n"
+
 -- the line of a status; the line, the column and the word count where a model's fault is told
 abbrev pub error_line : Status → ℕ → ℕ → Option Word → List ℕ
 error_line Done line column word = []
@@ -26,6 +31,7 @@ error_line Words line column word = codes "usage: covsmv COMMAND MODEL [SIGNAL..
 error_line (Input (Model f)) line column word = model_line f.code line column word
 error_line Read line column word = codes "read failed\n"
 error_line Write line column word = codes "write failed\n"
+error_line (Nodes full) line column word = nodes_line full
 error_line Memory line column word = codes "out of memory\n"
 
 -- the line was put, or a front of it where the sink failed

@@ -1,5 +1,6 @@
 pub mod Accepting
 pub mod ErrorLine
+pub mod Nodes
 pub mod Position
 pub mod Reading
 pub mod Refusal
@@ -8,5 +9,5 @@ pub mod Run
 pub mod Serving
 pub mod ShowExprs
 pub mod Status
+pub mod Stops
 pub mod Transfer
-pub mod Words

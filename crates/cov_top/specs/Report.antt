@@ -1,8 +1,12 @@
 -- What the commands print.
-use Rattle.std.specs.Prelude.{◌≡◌, ℕ, Bool, true, false, IsTrue, ◌↔◌, List, [], ◌++◌, codes, Option, Some, None}
+use Rattle.std.specs.Prelude.{◌≡◌, ℕ, Bool, true, false, IsTrue, ◌↔◌, nat_lt, List, [], ◌++◌, length, take, codes, Option, Some, None}
 use Rattle.cov_syntax.specs.declared.tree.Expr.{Expr}
+use Rattle.cov_model.specs.declared.model.CubeList.{CubeList}
 use Rattle.cov_model.specs.declared.model.Model.{Model}
-use Rattle.cov_initial.specs.Initial.{initial_cubes}
+use Rattle.cov_model.specs.Paths.{IsReachable}
+use Rattle.cov_model.specs.States.{State, is_initial, is_typed}
+use Rattle.cov_bits.specs.Layout.{sizes}
+use Rattle.cov_classes.specs.Cubes.{Set, cubes}
 use Rattle.cov_show.specs.Cubes.{shown_vars}
 use Rattle.cov_report.specs.Lines.{set_lines}
 use Rattle.cov_small.specs.declared.model.SmallModel.{SmallModel}
@@ -39,6 +43,20 @@ pub record IsCheckReport (m : SmallModel) (passes : Bool) (text : List ℕ) : Ty
   pub passes_is : IsTrue passes ↔ SpecPasses m
   pub is : text ≡ check_text m fair passes
 
--- the initial states
-abbrev pub init_report : Model → List ℕ
-init_report m = set_lines 0 (codes "initial") (shown_vars m) (record { cubes = initial_cubes m; more = false })
+-- the first of these cubes, and whether there are others
+abbrev pub first_cubes : ℕ → List (List (List ℕ)) → CubeList
+first_cubes limit cs = record { cubes = take limit cs; more = nat_lt limit (length cs) }
+
+-- the first cubes of a set of states, under a title
+abbrev pub states_text : List ℕ → ℕ → Model → Set → List ℕ
+states_text title limit m set = set_lines 0 title (shown_vars m) (first_cubes limit (cubes (sizes m.vars) set))
+
+-- the report on the initial states
+abbrev pub init_text : ℕ → Model → List ℕ
+init_text limit m = states_text (codes "initial") limit m (is_initial m)
+
+-- the report on the reachable states. The set is that of the reachable states: its cubes are the same, whatever it holds beside states.
+pub record IsReachReport (limit : ℕ) (m : Model) (text : List ℕ) : Type 0 where
+  pub set : Set
+  pub holds : (s : State) → IsTrue (is_typed m s) → IsTrue (set s) ↔ IsReachable m s
+  pub is : text ≡ states_text (codes "reachable") limit m set

@@ -6,15 +6,14 @@ use Rattle.cov_small.specs.Models.{small_model}
 use Rattle.cov_syntax.specs.declared.program.Program.{Program}
 use Rattle.cov_syntax.specs.declared.fault.ModelFault.{ModelFault}
 use Rattle.cov_model.specs.declared.model.Model as models
-use Rattle.cov_initial.specs.Initial.{is_few}
 use Rattle.cov_top.specs.Reading.{IsAccepted, IsTextFault}
 use Rattle.cov_top.specs.Serving.{IsNotServed, serves, not_built}
 use Rattle.cov_syntax.specs.declared.words.Word.{Word}
 use Rattle.cov_top.specs.Position.{line_of, column_of, told_word}
-use Rattle.cov_top.specs.Report.{init_report, IsCheckReport}
-use Rattle.cov_top.specs.Words.{model_name}
-use Rattle.cov_top.specs.declared.words.Job.{Job}
-use Rattle.cov_top.specs.declared.words.Job.TheVariants.{Init, Check}
+use Rattle.cov_top.specs.Report.{init_text, IsCheckReport, IsReachReport}
+use Rattle.cov_words.specs.Words.{model_name}
+use Rattle.cov_words.specs.declared.job.Job.{Job}
+use Rattle.cov_words.specs.declared.job.Job.TheVariants.{Init, Reach, Check}
 use Rattle.cov_top.specs.declared.status.Status.{Status}
 use Rattle.cov_top.specs.declared.status.Status.TheVariants.{Input}
 use Rattle.cov_top.specs.declared.status.InputFault.{InputFault}
@@ -36,7 +35,7 @@ pub record IsServed (j : Job) (bytes : List ℕ) : Type 0 where
   pub program : Program
   pub model : models.Model
   pub accepted : IsAccepted bytes program model
-  pub served : IsTrue (serves j program model)
+  pub served : IsTrue (serves j program)
 
 -- files are told, and the bytes of the one that the job names are accepted as a model that it serves
 abbrev pub IsAcceptedFile : Option Table → Option Job → Type 0
@@ -52,8 +51,9 @@ IsRefusedFile (Some files) (Some j) = (bytes : List ℕ) × (file_of files (mode
 
 -- the whole report of a job on a program and its model, and whether what it judges passes
 abbrev pub IsReportOn : Job → Program → models.Model → Bool → List ℕ → Type 0
-IsReportOn (Init name) p m passes text = IsTrue (is_few m) × (passes ≡ true) × (text ≡ init_report m)
-IsReportOn (Check name) p m passes text = (s : SmallModel) × (small_model p ≡ Some s) × IsCheckReport s passes text
+IsReportOn (Init name opts) p m passes text = (passes ≡ true) × (text ≡ init_text opts.cubes m)
+IsReportOn (Reach name opts) p m passes text = (passes ≡ true) × IsReachReport opts.cubes m text
+IsReportOn (Check name opts) p m passes text = (s : SmallModel) × (small_model p ≡ Some s) × IsCheckReport s passes text
 
 -- a text is accepted as a program with its model, and the report of a job on these is this text
 pub record IsTextReport (j : Job) (bytes : List ℕ) (passes : Bool) (text : List ℕ) : Type 0 where

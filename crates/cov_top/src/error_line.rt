@@ -1,13 +1,14 @@
 ghost use Rattle.std.specs.Prelude.{◌≡◌, ◌≤◌, ◌+◌, ◌++◌, length};
 ghost use Rattle.cov_syntax.specs.Words.{word_spelling};
 ghost use Rattle.arrayvec.specs.ArrayString.{array_string_len};
-ghost use Rattle.cov_top.specs.ErrorLine.{behind_space, error_line, model_line, PutsLine};
+ghost use Rattle.cov_top.specs.ErrorLine.{behind_space, error_line, model_line, nodes_line, PutsLine};
 
 use crate::position::Position;
 use crate::status::{InputFault, Status};
 use crate::transfer::put_all;
 use arrayvec::ArrayString;
 use cov_io::Sink;
+use cov_space::NodesFull;
 use cov_syntax::{ModelFault, Word};
 use itoa::Buffer;
 
@@ -54,6 +55,22 @@ fn model_line(fault: ModelFault, position: Position, word: Option<Word>) -> Arra
     line
 }
 
+/// The line on nodes that ran out.
+fn nodes_line(full: NodesFull) -> ArrayString<LINE>
+    ensures { result.bytes ≡ nodes_line full }
+{
+    let mut buffer = Buffer::new();
+    let mut line = ArrayString::new();
+    line.push_str("nodes: held ");
+    line.push_str(buffer.format(full.held));
+    line.push_str(", budget ");
+    line.push_str(buffer.format(full.budget));
+    line.push_str(", roots ");
+    line.push_str(buffer.format(full.roots));
+    line.push_str("\n");
+    line
+}
+
 /// The line of a status above 1, and nothing for any other.
 fn line_of_status(status: Status, position: Position, word: Option<Word>) -> ArrayString<LINE>
     ensures { result.bytes ≡ error_line status position.line position.column word }
@@ -64,6 +81,7 @@ fn line_of_status(status: Status, position: Position, word: Option<Word>) -> Arr
         Status::Input(InputFault::Model(fault)) => return model_line(fault, position, word),
         Status::Read => "read failed\n",
         Status::Write => "write failed\n",
+        Status::Nodes(full) => return nodes_line(full),
         Status::Memory => "out of memory\n",
     };
     let mut line = ArrayString::new();

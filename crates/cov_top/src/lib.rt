@@ -5,11 +5,12 @@ mod error_line;
 mod position;
 mod program;
 mod reading;
+mod refusal;
 mod report;
 mod show_expr;
+mod states;
 mod status;
 mod transfer;
-mod words;
 
 pub use program::run;
 pub use status::{InputFault, Status};

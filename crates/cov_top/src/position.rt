@@ -11,6 +11,11 @@ pub(crate) struct Position {
     pub(crate) column: u32,
 }
 
+impl Position {
+    /// The start of a text.
+    pub(crate) const START: Position = Position { line: 1, column: 1 };
+}
+
 /// The line and the column of the byte at a place, or of the end where the place is behind it.
 pub(crate) fn position_of(text: &[u8], at: usize) -> Position
     requires { length text.now < 2 ^ 31 }

@@ -1,72 +1,39 @@
-ghost use Rattle.std.specs.Prelude.{◌≡◌, ◌≢◌, ◌≤◌, ℕ, Bool, true, false, List, ◌<◌, ◌^◌, ◌⊎◌, length, Option, None, Some, IfOk, IfErr};
+ghost use Rattle.std.specs.Prelude.{◌≡◌, ◌≢◌, ◌≤◌, ℕ, Bool, true, false, List, ◌⊎◌, Option, None, Some, IfOk, IfErr, OnOk};
 ghost use Rattle.cov_io.specs.Outside.{Rose, Gains};
 ghost use Rattle.cov_top.specs.ErrorLine.{error_line, PutsLine};
-ghost use Rattle.cov_top.specs.Run.{IsInputFault, IsJobReport, IsAcceptedFile, IsMissing, IsPlace, IsRefusedFile, IsTextReport, IsFaultOf};
-ghost use Rattle.cov_top.specs.Refusal.{IsRefusal, IsUnread, file_too_long};
+ghost use Rattle.cov_top.specs.Nodes.{IsAmpleFile, IsJobShort};
+ghost use Rattle.cov_top.specs.Run.{IsInputFault, IsJobReport, IsAcceptedFile, IsMissing, IsPlace, IsRefusedFile, IsTextReport};
+ghost use Rattle.cov_top.specs.Refusal.{IsRefusal};
+ghost use Rattle.cov_top.specs.Stops.{IsTextStop};
 ghost use Rattle.cov_top.specs.Transfer.{GainsPart};
-ghost use Rattle.cov_top.specs.Words.{job};
+ghost use Rattle.cov_words.specs.Words.{job};
 
 use crate::error_line::put_error_line;
-use crate::position::{Position, position_of, told_word};
+use crate::position::Position;
 use crate::reading::read_model;
+use crate::refusal::{NoReport, Refusal, refuse, too_long, unread};
 use crate::report::{Report, job_report};
 use crate::status::{InputFault, Status};
 use crate::transfer::{ReadFault, put_all, read_file};
-use crate::words::{Job, WordsFault, read_words};
 use cov_io::{Files, Sink};
-use cov_syntax::{FaultKind, ModelFault, Refused, Span, Word};
+use cov_space::{Meter, NodesFull};
+use cov_syntax::Word;
+use cov_words::{Job, WordsFault, read_words};
 use std::alloc::Global;
 
 /// The most bytes of a model's text.
 const LIMIT: u32 = 1_048_576;
 
-/// Why there is no report, with the place of a model's fault and the word that is told there.
-#[derive(Clone, Copy, Debug)]
-pub(crate) struct Refusal {
-    pub(crate) status: Status,
-    pub(crate) position: Position,
-    pub(crate) word: Option<Word>,
-}
-
-/// The start of a text.
-const START: Position = Position { line: 1, column: 1 };
-
-fn refuse(status: Status) -> Refusal
-    ensures { result ≡ record { status = status; position = record { line = 1; column = 1 }; word = None } }
-{
-    Refusal {
-        status,
-        position: START,
-        word: None,
-    }
-}
-
-/// The refusal of a text that has more bytes than the limit.
-fn too_long() -> Refusal
-    ensures { result ≡ record { status = Status.Input (InputFault.Model file_too_long); position = record { line = 1; column = 1 }; word = None } }
-{
-    refuse(Status::Input(InputFault::Model(FaultKind::FileTooLong.at(Span { start: 0, stop: 0 }))))
-}
-
-/// The refusal of a text that is read as no model.
-fn unread(text: &[u8], refused: Refused) -> Refusal
-    requires { length text.now < 2 ^ 31 }
-    ensures { IsUnread text.now refused result }
-{
-    match refused {
-        Refused::Fault(fault) => Refusal {
-            status: Status::Input(InputFault::Model(fault)),
-            position: position_of(text, fault.place.start as usize),
-            word: told_word(text, fault),
-        },
-        Refused::Memory => refuse(Status::Memory),
-    }
-}
-
 /// The report of a job.
-fn report_on<F: Files>(alloc: Global, files: &mut F, job: &Job) -> Result<Report, Refusal>
+fn report_on<F: Files>(
+    alloc: Global,
+    files: &mut F,
+    job: &Job,
+    meter: &mut Meter,
+) -> Result<Report, Refusal>
     ensures ok { IfOk result (λ r. IsJobReport (F.told files.old) (Some job.now) r.passes r.text) }
-    ensures err { IfErr result (λ r. IsRefusal (F.told files.old) (F.faults files.old) (F.faults files.new) (Some job.now) r) }
+    ensures err { IfErr result (λ r. IsRefusal (F.told files.old) (F.faults files.old) (F.faults files.new) (Some job.now) meter.old meter.new r) }
+    ensures untold { OnOk result (meter.new ≡ meter.old) }
     ensures later { F.faults files.old ≤ F.faults files.new }
 {
     let text = match read_file(alloc, files, job.model(), LIMIT) {
@@ -75,29 +42,41 @@ fn report_on<F: Files>(alloc: Global, files: &mut F, job: &Job) -> Result<Report
         Err(ReadFault::TooLong) => return Err(too_long()),
         Err(ReadFault::Memory) => return Err(refuse(Status::Memory)),
     };
-    match report_on_text(alloc, job, text.as_slice()) {
+    match report_on_text(alloc, job, text.as_slice(), meter) {
         Ok(report) => Ok(report),
-        Err(refused) => Err(unread(text.as_slice(), refused)),
+        Err(reason) => Err(unread(text.as_slice(), reason)),
     }
 }
 
 /// The report of a job on the text of a model.
-fn report_on_text(alloc: Global, job: &Job, text: &[u8]) -> Result<Report, Refused>
+fn report_on_text(
+    alloc: Global,
+    job: &Job,
+    text: &[u8],
+    meter: &mut Meter,
+) -> Result<Report, NoReport>
     ensures ok { IfOk result (λ r. IsTextReport job.now text.now r.passes r.text) }
-    ensures fault { (f : ModelFault) → result ≡ Err (Refused.Fault f) → IsFaultOf job.now text.now f }
+    ensures untold { OnOk result (meter.new ≡ meter.old) }
+    ensures err { IfErr result (IsTextStop job.now text.now meter.old meter.new) }
 {
     let accepted = read_model(alloc, text)?;
-    job_report(alloc, job, &accepted)
+    job_report(alloc, job, &accepted, meter)
 }
 
 /// The report of the words' job, made whole before any of it is put.
-fn report_of<F: Files>(alloc: Global, words: &[String], files: &mut F) -> Result<Report, Refusal>
+fn report_of<F: Files>(
+    alloc: Global,
+    words: &[String],
+    files: &mut F,
+    meter: &mut Meter,
+) -> Result<Report, Refusal>
     ensures ok { IfOk result (λ r. IsJobReport (F.told files.old) (job words.now) r.passes r.text) }
-    ensures err { IfErr result (λ r. IsRefusal (F.told files.old) (F.faults files.old) (F.faults files.new) (job words.now) r) }
+    ensures err { IfErr result (λ r. IsRefusal (F.told files.old) (F.faults files.old) (F.faults files.new) (job words.now) meter.old meter.new r) }
+    ensures untold { OnOk result (meter.new ≡ meter.old) }
     ensures later { F.faults files.old ≤ F.faults files.new }
 {
     match read_words(alloc, words) {
-        Ok(job) => report_on(alloc, files, &job),
+        Ok(job) => report_on(alloc, files, &job, meter),
         Err(WordsFault::Words) => Err(refuse(Status::Words)),
         Err(WordsFault::Memory) => Err(refuse(Status::Memory)),
     }
@@ -117,7 +96,7 @@ fn put_report<O: Sink, E: Sink>(out: &mut O, err: &mut E, report: &Report) -> St
         Ok(()) if report.passes => Status::Done,
         Ok(()) => Status::Fails,
         Err(_) => {
-            put_error_line(err, Status::Write, START, None);
+            put_error_line(err, Status::Write, Position::START, None);
             Status::Write
         }
     }
@@ -131,6 +110,7 @@ pub fn run<F: Files, O: Sink, E: Sink>(
     files: &mut F,
     out: &mut O,
     err: &mut E,
+    meter: &mut Meter,
 ) -> Status
     // What was put.
     ensures done { result ≡ Status.Done → (text : List ℕ) × IsJobReport (F.told files.old) (job words.now) true text
@@ -152,19 +132,24 @@ pub fn run<F: Files, O: Sink, E: Sink>(
     ensures input { (f : InputFault) → result ≡ Status.Input f → IsInputFault (F.told files.old) (job words.now) f }
     ensures read { result ≡ Status.Read → Rose (F.faults files.old) (F.faults files.new) ⊎ IsMissing (F.told files.old) (job words.now) }
     ensures write { result ≡ Status.Write → Rose (O.faults out.old) (O.faults out.new) }
+    ensures nodes { (full : NodesFull) → result ≡ Status.Nodes full → IsJobShort (F.told files.old) (job words.now) meter.old meter.new full }
+    ensures untold { ((full : NodesFull) → result ≢ Status.Nodes full) → meter.new ≡ meter.old }
 
     // What can be answered nothing else.
     ensures no_job { job words.now ≡ None → (result ≡ Status.Words) ⊎ (result ≡ Status.Memory) }
     ensures missing { IsMissing (F.told files.old) (job words.now) → (result ≡ Status.Read) ⊎ (result ≡ Status.Memory) }
     ensures accepted { IsAcceptedFile (F.told files.old) (job words.now) → (f : InputFault) → result ≢ Status.Input f }
     ensures refused { IsRefusedFile (F.told files.old) (job words.now) → (result ≢ Status.Done) × (result ≢ Status.Fails) × (result ≢ Status.Write) }
+    ensures enough { IsAmpleFile (F.told files.old) (job words.now) → (full : NodesFull) → result ≢ Status.Nodes full }
+    ensures complete { IsAmpleFile (F.told files.old) (job words.now) → (Rose (F.faults files.old) (F.faults files.new) → ⊥) → (Rose (O.faults out.old) (O.faults out.new) → ⊥)
+        → (result ≡ Status.Done) ⊎ (result ≡ Status.Memory) }
 
     // Counts never fall.
     ensures files_later { F.faults files.old ≤ F.faults files.new }
     ensures out_later { O.faults out.old ≤ O.faults out.new }
     ensures err_later { E.faults err.old ≤ E.faults err.new }
 {
-    match report_of(alloc, words, files) {
+    match report_of(alloc, words, files, meter) {
         Ok(report) => put_report(out, err, &report),
         Err(refusal) => {
             put_error_line(err, refusal.status, refusal.position, refusal.word);

@@ -1,20 +1,19 @@
-ghost use Rattle.std.specs.Prelude.{◌≡◌, ◌≤◌, ◌++◌, true, length, IfOk, IfSome, None, OnOk, IsTrue, IsFalse};
-ghost use Rattle.cov_initial.specs.Initial.{is_few};
-ghost use Rattle.cov_model.specs.WellFormed.{IsWellFormed};
+ghost use Rattle.std.specs.Prelude.{◌≡◌, ◌≤◌, ◌++◌, length, IfOk, IfErr, IfSome, None, OnOk};
 ghost use Rattle.cov_small.specs.Models.{small_model};
 ghost use Rattle.cov_top.specs.Run.{IsReportOn};
-ghost use Rattle.cov_top.specs.Serving.{not_built, serves};
+ghost use Rattle.cov_top.specs.Serving.{not_built};
+ghost use Rattle.cov_top.specs.Stops.{IsModelStop};
 ghost use Rattle.cov_top.specs.Report as spec;
 
 use crate::reading::Accepted;
+use crate::refusal::NoReport;
 use crate::show_expr::show;
-use crate::words::Job;
-use cov_initial::{initial_cubes, is_few};
-use cov_model::Model;
-use cov_report::set_lines;
+use crate::states::{init_report, reach_report};
 use cov_small::SmallModel;
+use cov_space::Meter;
 use cov_split::verdict_of;
 use cov_syntax::{Expr, FaultKind, ModelFault, Names, NoMemory, Program, Refused, Seq, Span, Text};
+use cov_words::Job;
 use std::alloc::Global;
 
 /// A whole report, and whether what it judges passes.
@@ -29,18 +28,6 @@ fn not_built() -> Refused
     ensures { result ≡ Refused.Fault not_built }
 {
     Refused::Fault(FaultKind::NotBuilt.at(Span { start: 0, stop: 0 }))
-}
-
-/// The report on the initial states.
-fn init_report(alloc: Global, m: &Model) -> Result<Report, NoMemory>
-    requires formed { IsWellFormed m.now }
-    requires few { IsTrue (is_few m.now) }
-    ensures { IfOk result (λ r. (r.passes ≡ true) × (r.text ≡ spec.init_report m.now)) }
-{
-    let cubes = initial_cubes(alloc, m)?;
-    let mut text = Seq::new(alloc);
-    set_lines(alloc, m, b"initial", &cubes, 0, &mut text)?;
-    Ok(Report { text, passes: true })
 }
 
 /// What stands before p in the line of the specification AG p.
@@ -94,19 +81,6 @@ fn check_report(alloc: Global, model: &SmallModel) -> Result<Report, NoMemory>
     })
 }
 
-/// The report on the initial states of a model that has few variables, all Boolean.
-fn init_answer(alloc: Global, m: &Model) -> Result<Report, Refused>
-    requires formed { IsWellFormed m.now }
-    ensures ok { IfOk result (λ r. IsTrue (is_few m.now) × (r.passes ≡ true) × (r.text ≡ spec.init_report m.now)) }
-    ensures fault { (f : ModelFault) → result ≡ Err (Refused.Fault f) → (f ≡ not_built) × IsFalse (is_few m.now) }
-{
-    if is_few(m) {
-        Ok(init_report(alloc, m)?)
-    } else {
-        Err(not_built())
-    }
-}
-
 /// The report on the verdict of a program that is small.
 fn check_answer(alloc: Global, small: &Option<SmallModel>) -> Result<Report, Refused>
     requires { IfSome small.now (λ m. length m.names ≤ 6) }
@@ -120,13 +94,20 @@ fn check_answer(alloc: Global, small: &Option<SmallModel>) -> Result<Report, Ref
 }
 
 /// The report of a job on what a text was accepted as.
-pub(crate) fn job_report(alloc: Global, job: &Job, accepted: &Accepted) -> Result<Report, Refused>
+pub(crate) fn job_report(
+    alloc: Global,
+    job: &Job,
+    accepted: &Accepted,
+    meter: &mut Meter,
+) -> Result<Report, NoReport>
     requires { IfSome accepted.now.small (λ m. length m.names ≤ 6) }
     ensures ok { (p : Program) → small_model p ≡ accepted.now.small → IfOk result (λ r. IsReportOn job.now p accepted.now.checked r.passes r.text) }
-    ensures fault { (p : Program) (f : ModelFault) → small_model p ≡ accepted.now.small → result ≡ Err (Refused.Fault f) → (f ≡ not_built) × IsFalse (serves job.now p accepted.now.checked) }
+    ensures untold { OnOk result (meter.new ≡ meter.old) }
+    ensures err { (p : Program) → small_model p ≡ accepted.now.small → IfErr result (IsModelStop job.now p accepted.now.checked meter.old meter.new) }
 {
     match job {
-        Job::Init { model: _ } => init_answer(alloc, accepted.checked.model()),
-        Job::Check { model: _ } => check_answer(alloc, &accepted.small),
+        Job::Init { model: _, opts } => Ok(init_report(alloc, &accepted.checked, *opts, meter)?),
+        Job::Reach { model: _, opts } => Ok(reach_report(alloc, &accepted.checked, *opts, meter)?),
+        Job::Check { model: _, opts: _ } => Ok(check_answer(alloc, &accepted.small)?),
     }
 }

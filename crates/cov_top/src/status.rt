@@ -1,6 +1,7 @@
 ghost use Rattle.std.specs.Prelude.{◌≡◌};
 ghost use Rattle.cov_top.specs.Status.{code_of};
 
+use cov_space::NodesFull;
 use cov_syntax::ModelFault;
 
 /// What is wrong with the bytes of an input.
@@ -18,6 +19,7 @@ pub enum Status {
     Input(InputFault),
     Read,
     Write,
+    Nodes(NodesFull),
     Memory,
 }
 
@@ -33,6 +35,7 @@ impl Status {
             Status::Input(_) => 3,
             Status::Read => 4,
             Status::Write => 5,
+            Status::Nodes(_) => 6,
             Status::Memory => 7,
         }
     }

@@ -2,6 +2,7 @@
 #![tactic(auto)]
 
 use cov_io::{RealFiles, RealSink};
+use cov_space::Meter;
 use cov_top::{Status, run};
 use std::env;
 use std::io::ErrorKind;
@@ -27,6 +28,14 @@ fn main(rt: HostRuntime) -> ExitCode {
     let mut files = RealFiles::new(&rt);
     let mut out = RealSink::new(rt.stdout());
     let mut err = RealSink::new(rt.stderr());
-    let status = run(rt.alloc(), words.as_slice(), &mut files, &mut out, &mut err);
+    let mut meter = Meter::new();
+    let status = run(
+        rt.alloc(),
+        words.as_slice(),
+        &mut files,
+        &mut out,
+        &mut err,
+        &mut meter,
+    );
     ExitCode::from(status.code())
 }

@@ -1,5 +1,7 @@
-use Rattle.cov_top.specs.Words.{job}
-use Rattle.cov_top.proofs.RunLemmas.{accepted-refusal, refused-report}
+use Rattle.cov_words.specs.Words.{job}
+use Rattle.cov_top.proofs.CompleteLemmas.{refusal-complete, refusal-missing, report-complete}
+use Rattle.cov_top.proofs.NodesLemmas.{ample-short}
+use Rattle.cov_top.proofs.RunLemmas.{accepted-refusal, refused-report, short-refusal}
 use Rattle.cov_top.proofs.program.run.Goals as goal
 
 pub returns-in-Ok-clause-refused : goal.returns-in-Ok-clause-refused
@@ -7,5 +9,21 @@ returns-in-Ok-clause-refused g c = λ h.
     let no_report = refused-report (g.F.Files.told c.args.files.now) (job c.args.words.now) c.in-Ok.report.passes c.in-Ok.report.text h c.in-Ok.ensures.ok in
     (λ e. no_report, λ e. no_report, λ e. no_report)
 
+pub returns-in-Ok-clause-complete : goal.returns-in-Ok-clause-complete
+returns-in-Ok-clause-complete g c = λ ample read_well wrote_well.
+    report-complete (g.F.Files.told c.args.files.now) (job c.args.words.now) c.in-Ok.report.passes c.in-Ok.report.text _ _ c.put_report.result c.in-Ok.ensures.ok
+    c.put_report.ensures.which (λ e. (c.put_report.ensures.fails e).0) (λ e. (c.put_report.ensures.part e).1) ample wrote_well
+
+pub returns-in-Err-clause-missing : goal.returns-in-Err-clause-missing
+returns-in-Err-clause-missing g c = λ h. refusal-missing (g.F.Files.told c.args.files.now) _ _ (job c.args.words.now) _ _ c.in-Err.refusal.status c.in-Err.ensures.err.cause h
+
 pub returns-in-Err-clause-accepted : goal.returns-in-Err-clause-accepted
-returns-in-Err-clause-accepted g c = λ h. accepted-refusal (g.F.Files.told c.args.files.now) _ _ (job c.args.words.now) c.in-Err.refusal h c.in-Err.ensures.err
+returns-in-Err-clause-accepted g c = λ h. accepted-refusal (g.F.Files.told c.args.files.now) _ _ (job c.args.words.now) _ _ c.in-Err.refusal h c.in-Err.ensures.err
+
+pub returns-in-Err-clause-enough : goal.returns-in-Err-clause-enough
+returns-in-Err-clause-enough g c = λ ample full e.
+    ample-short (g.F.Files.told c.args.files.now) (job c.args.words.now) _ _ full ample (short-refusal _ _ _ _ _ _ c.in-Err.refusal c.in-Err.ensures.err full e)
+
+pub returns-in-Err-clause-complete : goal.returns-in-Err-clause-complete
+returns-in-Err-clause-complete g c = λ ample read_well wrote_well.
+    refusal-complete (g.F.Files.told c.args.files.now) _ _ (job c.args.words.now) _ _ c.in-Err.refusal.status c.in-Err.ensures.err.cause ample read_well

@@ -1,0 +1,106 @@
+//! Runs with few nodes.
+
+use cov_io::{MemFiles, MemSink};
+use cov_space::{Meter, NodesFull};
+use cov_top::{Status, run};
+use itoa::Buffer;
+use std::alloc::Global;
+use std::process::Abort;
+use std::test::Fail;
+
+/// One bit; 99 * 2^3 nodes are enough for it.
+const TOGGLE: &str = "MODULE main VAR q : boolean; ASSIGN init(q) := FALSE; next(q) := !q;";
+
+const REPORT: &str = "reachable\n  all\n";
+
+/// How a run ends.
+#[derive(Clone, Copy)]
+struct End {
+    status: Status,
+    /// Whether it printed the whole report, or nothing.
+    whole: bool,
+    nothing: bool,
+    /// Of how many refusals the meter was told, and with which levels and budget.
+    count: u64,
+    levels: u16,
+    budget: u32,
+}
+
+/// The words `reach M` with a node budget.
+fn words(alloc: Global, budget: u32) -> Result<Vec<String>, Fail> {
+    let mut buffer = Buffer::new();
+    let mut words = Vec::new(alloc);
+    for word in ["reach", "M", "--nodes", buffer.format(budget)] {
+        words.push(String::from_str(alloc, word)?)?;
+    }
+    Ok(words)
+}
+
+/// Runs `reach` on a model with a node budget.
+fn reach(alloc: Global, model: &str, budget: u32) -> Result<End, Fail> {
+    let words = words(alloc, budget)?;
+    let mut files = MemFiles::new(alloc);
+    files.add(b"M", model.as_bytes())?;
+    let mut out = MemSink::new(alloc, 1_000_000);
+    let mut err = MemSink::new(alloc, 1_000_000);
+    let mut meter = Meter::new();
+    let status = run(
+        alloc,
+        words.as_slice(),
+        &mut files,
+        &mut out,
+        &mut err,
+        &mut meter,
+    );
+    Ok(End {
+        status,
+        whole: out.bytes() == REPORT.as_bytes(),
+        nothing: out.bytes().is_empty(),
+        count: meter.count(),
+        levels: meter.levels(),
+        budget: meter.budget(),
+    })
+}
+
+/// The operation that was refused was told to the meter, and the numbers agree with the budget.
+fn expect_short(rt: &impl Abort, end: &End, full: NodesFull, levels: u16, budget: u32) {
+    assert_eq!(rt; full.held, budget);
+    assert_eq!(rt; full.budget, budget);
+    assert_eq!(rt; end.count, 1);
+    assert_eq!(rt; end.levels, levels);
+    assert_eq!(rt; end.budget, budget);
+    assert!(rt; end.nothing);
+    assert_eq!(rt; end.status.code(), 6);
+}
+
+/// The whole report was printed, and no operation was refused.
+fn expect_whole(rt: &impl Abort, end: &End) {
+    assert!(rt; end.whole);
+    assert_eq!(rt; end.count, 0);
+    assert_eq!(rt; end.status.code(), 0);
+}
+
+#[test]
+fn every_budget_of_a_model_of_one_bit(rt: HostRuntime) -> Result<(), Fail> {
+    for budget in 1..793 {
+        let end = reach(rt.alloc(), TOGGLE, budget)?;
+        match end.status {
+            Status::Nodes(full) => expect_short(&rt, &end, full, 3, budget),
+            _ => expect_whole(&rt, &end),
+        }
+    }
+    let enough = reach(rt.alloc(), TOGGLE, 792)?;
+    expect_whole(&rt, &enough);
+    Ok(())
+}
+
+#[test]
+fn one_node(rt: HostRuntime) -> Result<(), Fail> {
+    let model = "MODULE main VAR a : boolean; b : boolean; INIT !(a & b)";
+    let end = reach(rt.alloc(), model, 1)?;
+    match end.status {
+        Status::Nodes(full) => expect_short(&rt, &end, full, 6, 1),
+        other => assert_eq!(rt; other.code(), 6),
+    }
+    Ok(())
+}

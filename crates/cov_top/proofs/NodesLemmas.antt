@@ -1,0 +1,83 @@
+-- Lemmas on runs that are out of nodes, and on those that can't be.
+use Rattle.std.proofs.Common.{◌≡◌, ℕ, ◌≤◌, ◌<◌, false, List, Option, Some, None, IsTrue, refl, subst, arith}
+use Rattle.cov_io.specs.Outside.{Table}
+use Rattle.cov_model.specs.declared.model.Model as models
+use Rattle.cov_space.specs.declared.fault.NodesFull.{NodesFull}
+use Rattle.cov_space.specs.Meters.{MeterOf}
+use Rattle.cov_types.specs.Roots.{enough}
+use Rattle.cov_words.specs.Words.{opts_of}
+use Rattle.cov_words.specs.declared.job.Job.{Job}
+use Rattle.cov_words.specs.declared.job.Job.TheVariants as job
+use Rattle.cov_top.specs.Nodes.{IsAmple, IsAmpleFile, IsJobShort, IsTextShort, KeepsMeter, lists_states}
+use Rattle.cov_top.specs.Run.{IsAcceptedFile, IsJobReport, IsMissing, IsReportOn}
+use Rattle.cov_top.specs.Serving.{serves}
+use Rattle.cov_top.specs.declared.status.Status.{Status}
+use Rattle.cov_top.specs.declared.status.Status.TheVariants as status
+
+same_bytes : (o : Option (List ℕ)) (a b : List ℕ) → o ≡ Some a → o ≡ Some b → a ≡ b
+same_bytes o a b e f = cc
+
+-- a text is not both short of nodes and accepted as a model for which they are enough
+text-ample : (j : Job) (bytes : List ℕ) (old new : MeterOf) (full : NodesFull) → IsAmple j bytes → IsTextShort j bytes old new full → ⊥
+text-ample j bytes old new full a s =
+    let nodes : enough s.model ≤ (opts_of j).nodes = subst (λ m. enough m ≤ (opts_of j).nodes) (s.only a.program a.model a.accepted) a.nodes in
+    let short : (opts_of j).nodes < enough s.model = s.out.short in
+    absurd (omega arith)
+
+-- where the nodes are enough they do not run out
+pub ample-short : (told : Option Table) (j : Option Job) (old new : MeterOf) (full : NodesFull) → IsAmpleFile told j → IsJobShort told j old new full → ⊥
+ample-short told None old new full a s = a
+ample-short None (Some j) old new full a s = a
+ample-short (Some files) (Some j) old new full a s =
+    text-ample j s.bytes old new full (subst (λ b. IsAmple j b) (same_bytes _ a.0 s.bytes a.1 s.file.0) a.2) s.text
+
+-- a file that is not there is not short of nodes
+pub missing-short : (told : Option Table) (j : Option Job) (old new : MeterOf) (full : NodesFull) → IsMissing told j → IsJobShort told j old new full → ⊥
+missing-short told None old new full h s = s
+missing-short None (Some j) old new full h s = h
+missing-short (Some files) (Some j) old new full h s = let is = s.file.0 in cc
+
+-- the meter is as before after every status but the one on nodes
+pub keeps-meter : (s : Status) (old new : MeterOf) → KeepsMeter s old new → ((full : NodesFull) → s ≡ status.Nodes full → ⊥) → new ≡ old
+keeps-meter (status.Nodes full) old new k other = absurd (other full refl)
+keeps-meter status.Done old new k other = k
+keeps-meter status.Fails old new k other = k
+keeps-meter status.Words old new k other = k
+keeps-meter (status.Input f) old new k other = k
+keeps-meter status.Read old new k other = k
+keeps-meter status.Write old new k other = k
+keeps-meter status.Memory old new k other = k
+
+-- a job that lists states serves every model, and what it judges passes
+lists-serves : (j : Job) → IsTrue (lists_states j) → (p : _) → IsTrue (serves j p)
+lists-serves (job.Init name opts) h p = refl
+lists-serves (job.Reach name opts) h p = refl
+lists-serves (job.Check name opts) h p = cc
+
+-- a file for which the nodes are enough is accepted
+pub ample-accepted : (told : Option Table) (j : Option Job) → IsAmpleFile told j → IsAcceptedFile told j
+ample-accepted told None a = a
+ample-accepted None (Some j) a = a
+ample-accepted (Some files) (Some j) a = (a.0, a.1, record { program = a.2.program; model = a.2.model; accepted = a.2.accepted; served = lists-serves j a.2.lists a.2.program })
+
+-- and it is there
+pub ample-there : (told : Option Table) (j : Option Job) → IsAmpleFile told j → IsMissing told j → ⊥
+ample-there told None a h = a
+ample-there None (Some j) a h = a
+ample-there (Some files) (Some j) a h = let is = a.1 in cc
+
+-- and the words ask for a job
+pub ample-job : (told : Option Table) (j : Option Job) → IsAmpleFile told j → j ≡ None → ⊥
+ample-job told None a e = a
+ample-job told (Some j) a e = cc
+
+reports-pass : (j : Job) (p : _) (m : models.Model) (text : List ℕ) → IsTrue (lists_states j) → IsReportOn j p m false text → ⊥
+reports-pass (job.Init name opts) p m text h r = let e = r.0 in cc
+reports-pass (job.Reach name opts) p m text h r = let e = r.0 in cc
+reports-pass (job.Check name opts) p m text h r = cc
+
+-- a job that lists states has no report of what does not pass
+pub ample-passes : (told : Option Table) (j : Option Job) (text : List ℕ) → IsAmpleFile told j → IsJobReport told j false text → ⊥
+ample-passes told None text a r = a
+ample-passes None (Some j) text a r = a
+ample-passes (Some files) (Some j) text a r = reports-pass j r.report.program r.report.model text a.2.lists r.report.is

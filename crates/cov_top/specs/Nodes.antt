@@ -1,0 +1,61 @@
+-- When a run is out of nodes, and when it can't be.
+use Rattle.std.specs.Prelude.{◌≡◌, ℕ, ◌≤◌, Bool, true, false, List, Option, Some, None, IsTrue}
+use Rattle.cov_io.specs.Outside.{Table, file_of, IsFile}
+use Rattle.cov_syntax.specs.declared.program.Program.{Program}
+use Rattle.cov_model.specs.declared.model.Model as models
+use Rattle.cov_space.specs.declared.fault.NodesFull.{NodesFull}
+use Rattle.cov_space.specs.Meters.{MeterOf}
+use Rattle.cov_sym.specs.Systems.{IsOutOfNodes}
+use Rattle.cov_types.specs.Roots.{enough}
+use Rattle.cov_words.specs.Words.{model_name, opts_of}
+use Rattle.cov_words.specs.declared.job.Job.{Job}
+use Rattle.cov_words.specs.declared.job.Job.TheVariants.{Init, Reach, Check}
+use Rattle.cov_top.specs.Reading.{IsAccepted}
+use Rattle.cov_top.specs.declared.status.Status.{Status}
+use Rattle.cov_top.specs.declared.status.Status.TheVariants.{Nodes}
+
+-- whether a job lists the states of a set, which takes nodes
+abbrev pub lists_states : Job → Bool
+lists_states (Init name opts) = true
+lists_states (Reach name opts) = true
+lists_states (Check name opts) = false
+
+-- A text is accepted as one model and as no other, and an operation on its sets was refused, which the meter was told: the
+-- nodes of the job are fewer than what is enough for the model.
+pub record IsTextShort (j : Job) (bytes : List ℕ) (old new : MeterOf) (full : NodesFull) : Type 0 where
+  pub program : Program
+  pub model : models.Model
+  pub accepted : IsAccepted bytes program model
+  pub only : (p : Program) (m : models.Model) → IsAccepted bytes p m → m ≡ model
+  pub lists : IsTrue (lists_states j)
+  pub out : IsOutOfNodes model (opts_of j).nodes old new full
+
+-- the same of the whole file of the job
+pub record IsShort (told : Option Table) (j : Job) (old new : MeterOf) (full : NodesFull) : Type 0 where
+  pub bytes : List ℕ
+  pub file : IsFile told (model_name j) (Some bytes)
+  pub text : IsTextShort j bytes old new full
+
+-- the words ask for a job, and its file is short of nodes
+abbrev pub IsJobShort : Option Table → Option Job → MeterOf → MeterOf → NodesFull → Type 0
+IsJobShort told None old new full = ⊥
+IsJobShort told (Some j) old new full = IsShort told j old new full
+
+-- the meter is as before but where the nodes ran out
+abbrev pub KeepsMeter : Status → MeterOf → MeterOf → Type 0
+KeepsMeter (Nodes full) old new = Unit {0}
+KeepsMeter s old new = new ≡ old
+
+-- a text is accepted as a model for which the nodes of the job are enough
+pub record IsAmple (j : Job) (bytes : List ℕ) : Type 0 where
+  pub program : Program
+  pub model : models.Model
+  pub accepted : IsAccepted bytes program model
+  pub lists : IsTrue (lists_states j)
+  pub nodes : enough model ≤ (opts_of j).nodes
+
+-- files are told, and the one that the job names is accepted as a model for which its nodes are enough
+abbrev pub IsAmpleFile : Option Table → Option Job → Type 0
+IsAmpleFile told None = ⊥
+IsAmpleFile None (Some j) = ⊥
+IsAmpleFile (Some files) (Some j) = (bytes : List ℕ) × (file_of files (model_name j) ≡ Some bytes) × IsAmple j bytes
