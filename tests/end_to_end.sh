@@ -41,6 +41,7 @@ mkdir "$place/folder"
 usage='usage: covsmv COMMAND MODEL [SIGNAL..] [OPTIONS]\n'
 
 cp examples/lights.smv "$place/lights"
+cp examples/cells.smv "$place/cells"
 expect 'a model' 0 'initial\n  a=FALSE\n  a=TRUE,b=FALSE\n' '' init model
 printf 'MODULE main VAR q : boolean; INIT !q TRANS next(q) & !q | !next(q) & q SPEC AG !q' >"$place/toggle"
 printf 'MODULE main VAR q : boolean; TRANS FALSE SPEC AG q' >"$place/blocked"
@@ -84,6 +85,23 @@ expect 'instances that double at each level' 3 '' 'model: TooLarge at 1:1\n' che
 printf 'MODULE main VAR a : m(b); b : boolean; INIT a.c MODULE m(p) VAR c : boolean; INVAR c -> p' >"$place/later"
 expect 'an argument that is declared behind its instance' 0 'initial\n  b=TRUE,a.c=TRUE\n' '' init later
 expect 'modules with parameters and DEFINEs' 0 'initial\n  switch=FALSE\n  switch=TRUE,hall.works=FALSE\n  switch=TRUE,hall.works=TRUE,stairs.works=FALSE\n' '' init lights
+cells='reachable\n  mode=idle,a.out=FALSE\n  mode=work,a.out=FALSE,b.out=FALSE\n  mode=rest,a.out=TRUE,b.out=FALSE\n'
+expect 'the initial states of three modules' 0 'initial\n  mode=idle,a.out=FALSE,b.out=FALSE\n' '' init cells
+expect 'the reachable states of three modules' 0 "$cells" '' reach cells
+expect 'one cube and others' 0 'reachable\n  mode=idle,a.out=FALSE\n  more\n' '' reach cells --cubes 1
+expect 'an option before the model' 0 'reachable\n  mode=idle,a.out=FALSE\n  more\n' '' reach --cubes=1 cells
+expect 'a file behind two dashes' 0 "$cells" '' reach --nodes 1000 -- cells
+expect 'a budget of no nodes' 2 '' "$usage" reach cells --nodes 0
+expect 'an option that is given twice' 2 '' "$usage" reach cells --cubes 1 --cubes 2
+expect 'an option of another command' 2 '' "$usage" check toggle --cubes 1
+(cd "$place" && "$program" reach cells --nodes 1) >"$place/.out" 2>"$place/.full"
+status=$?
+sed 's/roots [0-9]*$/roots R/' "$place/.full" >"$place/.err"
+judge 'a budget of one node' 6 "$status" '' 'nodes: held 1, budget 1, roots R\n'
+{ echo 'MODULE main VAR'; for i in $(seq 60); do echo "b$i : boolean;"; done; } >"$place/free"
+expect 'sixty free variables' 0 'reachable\n  all\n' '' reach free
+printf 'MODULE main VAR x : 0..2; ASSIGN init(x) := 0; next(x) := x + 1; SPEC AG x = 0' >"$place/counter"
+expect 'a counter that stops' 0 'reachable\n  all\n' '' reach counter
 expect 'an empty file to check' 3 '' 'model: Syntax at 1:1\n' check empty
 expect 'an empty file' 3 '' 'model: Syntax at 1:1\n' init empty
 expect 'a file of blanks' 3 '' 'model: Syntax at 1:4098\n' init long
