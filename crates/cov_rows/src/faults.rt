@@ -67,40 +67,43 @@ v58 : boolean;
 v59 : boolean;
 v60 : boolean;";
 
+/// Texts with a fault of the grammar or of their modules, and their error lines.
+const MODULE_FAULTS: [(&str, &str); 12] = [
+    ("MODULE main ?", "model: BadByte at 1:13\n"),
+    ("MODULE main VAR a boolean;", "model: Syntax at 1:19\n"),
+    ("MODULE m", "model: NoMain at 1:1\n"),
+    ("MODULE main VAR a : m;", "model: UnknownModule at 1:21\n"),
+    (
+        "MODULE main VAR a : main;",
+        "model: RecursiveModule at 1:21\n",
+    ),
+    (
+        "MODULE main VAR a : m; MODULE m(p)",
+        "model: WrongArguments at 1:21\n",
+    ),
+    (
+        "MODULE main VAR a : boolean; a : boolean;",
+        "model: DuplicateName at 1:30\n",
+    ),
+    ("MODULE main INIT z", "model: UnknownName at 1:18\n"),
+    ("MODULE main VAR a : {a, b};", "model: NameClash at 1:17\n"),
+    (
+        "MODULE main VAR a : boolean; ASSIGN a := 0; init(a) := 0;",
+        "model: DoubleAssign at 1:50\n",
+    ),
+    (
+        "MODULE main FROZENVAR a : boolean;",
+        "model: LeftOut at 1:13 FROZENVAR\n",
+    ),
+    (
+        "MODULE main INIT (((((((((((((((((((((((((((((((((((((((((((((((((((((((((((((((((((((((((((((((((((((((((((((((((((((((((((((((((((((((((((((((((",
+        "model: TooDeep at 1:146\n",
+    ),
+];
+
 #[test]
 fn faults_of_the_text_and_of_modules(rt: HostRuntime) -> Result<(), Fail> {
-    for (model, line) in [
-        ("MODULE main ?", "model: BadByte at 1:13\n"),
-        ("MODULE main VAR a boolean;", "model: Syntax at 1:19\n"),
-        ("MODULE m", "model: NoMain at 1:1\n"),
-        ("MODULE main VAR a : m;", "model: UnknownModule at 1:21\n"),
-        (
-            "MODULE main VAR a : main;",
-            "model: RecursiveModule at 1:21\n",
-        ),
-        (
-            "MODULE main VAR a : m; MODULE m(p)",
-            "model: WrongArguments at 1:21\n",
-        ),
-        (
-            "MODULE main VAR a : boolean; a : boolean;",
-            "model: DuplicateName at 1:30\n",
-        ),
-        ("MODULE main INIT z", "model: UnknownName at 1:18\n"),
-        ("MODULE main VAR a : {a, b};", "model: NameClash at 1:17\n"),
-        (
-            "MODULE main VAR a : boolean; ASSIGN a := 0; init(a) := 0;",
-            "model: DoubleAssign at 1:50\n",
-        ),
-        (
-            "MODULE main FROZENVAR a : boolean;",
-            "model: LeftOut at 1:13 FROZENVAR\n",
-        ),
-        (
-            "MODULE main INIT (((((((((((((((((((((((((((((((((((((((((((((((((((((((((((((((((((((((((((((((((((((((((((((((((((((((((((((((((((((((((((((((((",
-            "model: TooDeep at 1:146\n",
-        ),
-    ] {
+    for (model, line) in MODULE_FAULTS {
         expect(
             &rt,
             rt.alloc(),
@@ -113,44 +116,47 @@ fn faults_of_the_text_and_of_modules(rt: HostRuntime) -> Result<(), Fail> {
     Ok(())
 }
 
+/// Models with a fault of their kinds, and their error lines.
+const KIND_FAULTS: [(&str, &str); 10] = [
+    ("MODULE main VAR a : 3..1;", "model: BadType at 1:21\n"),
+    ("MODULE main VAR x : 0..2; INIT x", "model: Kind at 1:32\n"),
+    (
+        "MODULE main VAR a : boolean; INIT {a}",
+        "model: SetPlace at 1:35\n",
+    ),
+    (
+        "MODULE main VAR a : boolean; INIT case a : a; esac",
+        "model: CaseNotClosed at 1:35\n",
+    ),
+    (
+        "MODULE main VAR x : 0..2; INIT 1 / x = 1",
+        "model: DivisorMayBeZero at 1:36\n",
+    ),
+    (
+        "MODULE main VAR x : 0..1024;",
+        "model: RangeTooWide at 1:21\n",
+    ),
+    (
+        "MODULE main INIT 1000001 = 1",
+        "model: RangeTooWide at 1:18\n",
+    ),
+    (
+        "MODULE main DEFINE a := b; b := a;",
+        "model: Circular at 1:20\n",
+    ),
+    (
+        "MODULE main VAR a : boolean; INIT next(a)",
+        "model: NextPlace at 1:35\n",
+    ),
+    (
+        "MODULE main VAR a : boolean; FAIRNESS AF a",
+        "model: TemporalPlace at 1:39\n",
+    ),
+];
+
 #[test]
 fn faults_of_kinds(rt: HostRuntime) -> Result<(), Fail> {
-    for (model, line) in [
-        ("MODULE main VAR a : 3..1;", "model: BadType at 1:21\n"),
-        ("MODULE main VAR x : 0..2; INIT x", "model: Kind at 1:32\n"),
-        (
-            "MODULE main VAR a : boolean; INIT {a}",
-            "model: SetPlace at 1:35\n",
-        ),
-        (
-            "MODULE main VAR a : boolean; INIT case a : a; esac",
-            "model: CaseNotClosed at 1:35\n",
-        ),
-        (
-            "MODULE main VAR x : 0..2; INIT 1 / x = 1",
-            "model: DivisorMayBeZero at 1:36\n",
-        ),
-        (
-            "MODULE main VAR x : 0..1024;",
-            "model: RangeTooWide at 1:21\n",
-        ),
-        (
-            "MODULE main INIT 1000001 = 1",
-            "model: RangeTooWide at 1:18\n",
-        ),
-        (
-            "MODULE main DEFINE a := b; b := a;",
-            "model: Circular at 1:20\n",
-        ),
-        (
-            "MODULE main VAR a : boolean; INIT next(a)",
-            "model: NextPlace at 1:35\n",
-        ),
-        (
-            "MODULE main VAR a : boolean; FAIRNESS AF a",
-            "model: TemporalPlace at 1:39\n",
-        ),
-    ] {
+    for (model, line) in KIND_FAULTS {
         expect(
             &rt,
             rt.alloc(),

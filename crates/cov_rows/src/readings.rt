@@ -245,43 +245,46 @@ fn printed(alloc: Global, program: &Program, places: bool) -> Result<Seq<u8>, No
     Ok(printer.text)
 }
 
+/// Expressions, and their trees.
+const TREES: [(&str, &str); 24] = [
+    ("!a = b", "(! (= a b))"),
+    ("a = !b", "(= a (! b))"),
+    ("a = EX b", "(= a (EX b))"),
+    ("a != !b = c", "(!= a (! (= b c)))"),
+    ("a = b = c", "(= (= a b) c)"),
+    ("a -> b -> c", "(-> a (-> b c))"),
+    ("a <-> b <-> c", "(<-> (<-> a b) c)"),
+    (
+        "a <-> b -> c | d xor e & !f",
+        "(-> (<-> a b) (xor (| c d) (& e (! f))))",
+    ),
+    ("(a -> b) -> (c)", "(-> (-> a b) c)"),
+    ("a - 1", "(- a 1)"),
+    ("a -1", "(- a 1)"),
+    ("a-1", "a-1"),
+    ("1..3", "1..3"),
+    ("-1..2", "-1..2"),
+    ("1 .. -2", "1..-2"),
+    ("- -1", "(neg -1)"),
+    ("-(1)", "(neg 1)"),
+    (
+        "-a.b * 2 + 7 mod 3 - x / 4",
+        "(mod (+ (* (neg a.b) 2) 7) (- 3 (/ x 4)))",
+    ),
+    ("x in {1,2} union y", "(in x (union {1,2,} y))"),
+    ("x < 1 & y >= 2", "(& (< x 1) (>= y 2))"),
+    ("A[a U b] | E[c U d -> e]", "(| (AU a b) (EU c (-> d e)))"),
+    ("AG a -> AF b", "(-> (AG a) (AF b))"),
+    ("next(a) = next(b.c)", "(= (next a) (next b.c))"),
+    (
+        "case a : case TRUE : 1; esac; FALSE : {x, 2..3}; esac",
+        "[a:[TRUE:1;];FALSE:{x,2..3,};]",
+    ),
+];
+
 #[test]
 fn texts_are_these_trees(rt: HostRuntime) -> Result<(), Fail> {
-    for (expression, tree) in [
-        ("!a = b", "(! (= a b))"),
-        ("a = !b", "(= a (! b))"),
-        ("a = EX b", "(= a (EX b))"),
-        ("a != !b = c", "(!= a (! (= b c)))"),
-        ("a = b = c", "(= (= a b) c)"),
-        ("a -> b -> c", "(-> a (-> b c))"),
-        ("a <-> b <-> c", "(<-> (<-> a b) c)"),
-        (
-            "a <-> b -> c | d xor e & !f",
-            "(-> (<-> a b) (xor (| c d) (& e (! f))))",
-        ),
-        ("(a -> b) -> (c)", "(-> (-> a b) c)"),
-        ("a - 1", "(- a 1)"),
-        ("a -1", "(- a 1)"),
-        ("a-1", "a-1"),
-        ("1..3", "1..3"),
-        ("-1..2", "-1..2"),
-        ("1 .. -2", "1..-2"),
-        ("- -1", "(neg -1)"),
-        ("-(1)", "(neg 1)"),
-        (
-            "-a.b * 2 + 7 mod 3 - x / 4",
-            "(mod (+ (* (neg a.b) 2) 7) (- 3 (/ x 4)))",
-        ),
-        ("x in {1,2} union y", "(in x (union {1,2,} y))"),
-        ("x < 1 & y >= 2", "(& (< x 1) (>= y 2))"),
-        ("A[a U b] | E[c U d -> e]", "(| (AU a b) (EU c (-> d e)))"),
-        ("AG a -> AF b", "(-> (AG a) (AF b))"),
-        ("next(a) = next(b.c)", "(= (next a) (next b.c))"),
-        (
-            "case a : case TRUE : 1; esac; FALSE : {x, 2..3}; esac",
-            "[a:[TRUE:1;];FALSE:{x,2..3,};]",
-        ),
-    ] {
+    for (expression, tree) in TREES {
         let mut text = Seq::new(rt.alloc());
         text.extend_from_slice(b"MODULE m INIT ")?;
         text.extend_from_slice(expression.as_bytes())?;
@@ -385,33 +388,36 @@ fn has_fault(alloc: Global, text: &[u8], kind: FaultKind, start: u32) -> bool {
     }
 }
 
+/// Texts, and the kinds and the starts of their faults.
+const TEXT_FAULTS: [(&str, FaultKind, u32); 18] = [
+    ("MODULE main VAR a boolean;", FaultKind::Syntax, 18),
+    ("MODULE main FROZENVAR a : boolean;", FaultKind::LeftOut, 12),
+    ("MODULE main INIT 1000001 = 1", FaultKind::RangeTooWide, 17),
+    ("MODULE main INIT -1000001 = 1", FaultKind::RangeTooWide, 18),
+    (
+        "MODULE main VAR a : 0..99999999999999999999;",
+        FaultKind::RangeTooWide,
+        23,
+    ),
+    // At a token that goes on with nothing that fault comes first.
+    ("MODULE main INIT a 1000001", FaultKind::Syntax, 19),
+    ("", FaultKind::Syntax, 0),
+    ("MODULE main VAR a : boolean -- end", FaultKind::Syntax, 34),
+    ("MODULE main INIT a + ", FaultKind::Syntax, 21),
+    ("MODULE main INIT a ; ;", FaultKind::Syntax, 21),
+    ("MODULE main VAR a : boolean;;", FaultKind::Syntax, 28),
+    ("MODULE main DEFINE next(x) := 1;", FaultKind::Syntax, 19),
+    ("MODULE main INIT a.next", FaultKind::Syntax, 19),
+    ("MODULE main INIT a = (", FaultKind::Syntax, 22),
+    ("MODULE main INIT a xnor b", FaultKind::LeftOut, 19),
+    ("MODULE main INIT 1..2..3", FaultKind::Syntax, 21),
+    ("MODULE main INIT {}", FaultKind::Syntax, 18),
+    ("MODULE main INIT case esac", FaultKind::Syntax, 22),
+];
+
 #[test]
 fn texts_have_these_faults(rt: HostRuntime) -> Result<(), Fail> {
-    for (text, kind, start) in [
-        ("MODULE main VAR a boolean;", FaultKind::Syntax, 18),
-        ("MODULE main FROZENVAR a : boolean;", FaultKind::LeftOut, 12),
-        ("MODULE main INIT 1000001 = 1", FaultKind::RangeTooWide, 17),
-        ("MODULE main INIT -1000001 = 1", FaultKind::RangeTooWide, 18),
-        (
-            "MODULE main VAR a : 0..99999999999999999999;",
-            FaultKind::RangeTooWide,
-            23,
-        ),
-        // At a token that goes on with nothing that fault comes first.
-        ("MODULE main INIT a 1000001", FaultKind::Syntax, 19),
-        ("", FaultKind::Syntax, 0),
-        ("MODULE main VAR a : boolean -- end", FaultKind::Syntax, 34),
-        ("MODULE main INIT a + ", FaultKind::Syntax, 21),
-        ("MODULE main INIT a ; ;", FaultKind::Syntax, 21),
-        ("MODULE main VAR a : boolean;;", FaultKind::Syntax, 28),
-        ("MODULE main DEFINE next(x) := 1;", FaultKind::Syntax, 19),
-        ("MODULE main INIT a.next", FaultKind::Syntax, 19),
-        ("MODULE main INIT a = (", FaultKind::Syntax, 22),
-        ("MODULE main INIT a xnor b", FaultKind::LeftOut, 19),
-        ("MODULE main INIT 1..2..3", FaultKind::Syntax, 21),
-        ("MODULE main INIT {}", FaultKind::Syntax, 18),
-        ("MODULE main INIT case esac", FaultKind::Syntax, 22),
-    ] {
+    for (text, kind, start) in TEXT_FAULTS {
         assert!(rt;
             has_fault(rt.alloc(), text.as_bytes(), kind, start),
             "another fault: {text}"
