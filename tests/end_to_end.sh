@@ -28,6 +28,16 @@ judge() {
     fi
 }
 
+# stored STATUS NAME COMMAND SIGNAL..: on examples/NAME.smv the program writes the report that tests/reports holds.
+stored() {
+    local status=$1 name=$2 command=$3
+    shift 3
+    local signals=$*
+    cp "examples/$name.smv" "$place/$name"
+    (cd "$place" && "$program" "$command" "$name" "$@") >"$place/.out" 2>"$place/.err" </dev/null
+    judge "$command $name $*" "$status" "$?" "$(cat "tests/reports/$name.$command${signals:+-${signals// /-}}")\n" ''
+}
+
 # the gate may keep what it proved before without building it anew
 [ -x "$program" ] || ./covsmv init examples/arbiter.smv >"$place/.build" 2>&1
 [ -x "$program" ] || { cat "$place/.build"; echo "there is no $program"; echo "0 passed, 1 failed"; exit 1; }
@@ -75,7 +85,7 @@ ASSIGN init(state) := idle;
     1 : state;
   esac;
 END
-expect 'a model of several modules is read' 3 '' 'model: NotBuilt at 1:1\n' check clients
+expect 'a model of several modules' 0 'spec 1 passes: AG !(a.holds & b.holds)\nspec 2 passes: AG (a.asks -> AF a.holds)\nspec 3 passes: AG (a.holds -> AX !a.holds)\nspec 4 passes: AG AF b.holds\n' '' check clients
 sed 's/esac;$/esac/' "$place/clients" >"$place/unended"
 expect 'a model of several modules with a fault' 3 '' 'model: Syntax at 5:1\n' check unended
 { printf 'MODULE main VAR\n'; for i in $(seq 4097); do echo "v$i : boolean;"; done; } >"$place/many"
@@ -100,8 +110,22 @@ sed 's/roots [0-9]*$/roots R/' "$place/.full" >"$place/.err"
 judge 'a budget of one node' 6 "$status" '' 'nodes: held 1, budget 1, roots R\n'
 { echo 'MODULE main VAR'; for i in $(seq 60); do echo "b$i : boolean;"; done; } >"$place/free"
 expect 'sixty free variables' 0 'reachable\n  all\n' '' reach free
+{ printf 'MODULE main VAR'; for i in $(seq 0 39); do printf ' f%s : 0..1;' "$i"; done; printf ' INIT f0'; for i in $(seq 39); do printf ' + f%s' "$i"; done; echo ' = 3'; } >"$place/flags"
+first=$(for i in $(seq 0 39); do printf 'f%s=%s,' "$i" $((i > 36)); done)
+expect 'a sum of forty flags' 0 "initial\n  ${first%,}\n  more\n" '' init flags --cubes 1
+printf 'MODULE main VAR x : 0..511; y : 0..511; ASSIGN init(x) := 0; next(x) := (x + y) mod 512;' >"$place/adder"
+expect 'an accumulator of nine bits' 0 'reachable\n  all\n' '' reach adder
+printf 'MODULE main VAR x : 0..511; ASSIGN init(x) := 0; next(x) := (x + 1) mod 512; SPEC AG AF x = 511' >"$place/nine"
+expect 'a counter of nine bits' 0 'reachable\n  all\n' '' reach nine
+expect 'a property of the counter' 0 'spec 1 passes: AG AF x = 511\n' '' check nine
 printf 'MODULE main VAR x : 0..2; ASSIGN init(x) := 0; next(x) := x + 1; SPEC AG x = 0' >"$place/counter"
 expect 'a counter that stops' 0 'reachable\n  all\n' '' reach counter
+# models with 2^40 and with 2^22 reachable states
+{ echo 'MODULE main VAR'; for i in $(seq 0 39); do echo "s$i : boolean;"; done; echo ASSIGN; for i in $(seq 1 2 39); do echo "next(s$i) := s$((i - 1));"; done; echo 'SPEC AG (s0 -> AX s1)'; } >"$place/pairs"
+expect 'coverage of forty bits' 0 'spec 1 passes: AG (s0 -> AX s1)\n  signal s1\n    covered\n      s1=TRUE\n    uncovered\n      s1=FALSE\n' '' cover pairs s1
+{ echo 'MODULE main VAR x : 0..15; y : 0..15;'; for i in $(seq 14); do echo "b$i : boolean;"; done; echo 'DEFINE even := x mod 2 = 0; odd_step := y mod 2 = 1; ASSIGN init(x) := 0; next(x) := (x + y) mod 16; SPEC AG (even & odd_step -> AX !even)'; } >"$place/steps"
+expect 'coverage of a sum' 0 'spec 1 passes: AG (even & odd_step -> AX !even)\n  signal even\n    covered\n      x={1,3,5,7,9,11,13,15}\n    uncovered\n      x={0,2,4,6,8,10,12,14}\n' '' cover steps even
+expect 'a signal that the model does not have' 8 '' 'asked: UnknownSignal z\n' cover pairs s1 z
 expect 'an empty file to check' 3 '' 'model: Syntax at 1:1\n' check empty
 expect 'an empty file' 3 '' 'model: Syntax at 1:1\n' init empty
 expect 'a file of blanks' 3 '' 'model: Syntax at 1:4098\n' init long
@@ -112,6 +136,24 @@ expect 'no words' 2 '' "$usage"
 expect 'one word' 2 '' "$usage" init
 expect 'an unknown command' 2 '' "$usage" frob model
 expect 'a word that is not UTF-8' 2 '' '' init "$(printf '\377')"
+
+# models as they are met in practice
+practice='priority peterson handshake coherence traffic buffer elevator retry semaphore watchdog'
+for name in $practice; do
+    stored 0 "$name" reach
+    stored 1 "$name" check
+    stored 1 "$name" vacuity
+done
+stored 1 priority cover a.uses
+stored 1 peterson cover p.inside
+stored 1 handshake cover ack req
+stored 1 coherence cover a.owns
+stored 1 traffic cover car side.open
+stored 1 buffer cover put
+stored 1 elevator cover ground.lit
+stored 1 retry cover answered wants_odd
+stored 1 semaphore cover a.works
+stored 1 watchdog cover fires hangs
 
 # Six variables of which an odd number is true: each of the 32 states is a cube of its own.
 odd() { printf '(%s) & !(%s) | !(%s) & (%s)' "$1" "$2" "$1" "$2"; }

@@ -6,7 +6,7 @@ use Rattle.cov_syntax.specs.declared.tree.Op1.{Op1}
 use Rattle.cov_syntax.specs.declared.tree.Op1.TheVariants as op1
 use Rattle.cov_syntax.specs.declared.tree.Op2.{Op2}
 use Rattle.cov_syntax.specs.declared.tree.Op2.TheVariants as op2
-use Rattle.cov_syntax.specs.declared.tree.Node.{Node, roll-Node, out-Node, out-roll-Node}
+use Rattle.cov_syntax.specs.declared.tree.Node.{Node, roll-Node, out-roll-Node}
 use Rattle.cov_syntax.specs.declared.tree.Expr.{Expr, roll-Expr}
 use Rattle.cov_syntax.specs.declared.tree.Branch.{Branch, roll-Branch}
 use Rattle.cov_syntax.specs.declared.tree.Node.TheFolds.{ind-Expr, map-Node, fold-Expr, fold-Node, fold-Branch, fold-roll-Node, fold-roll-Branch, fold-roll-Expr}
@@ -14,10 +14,10 @@ use Rattle.cov_syntax.specs.declared.tree.Node.TheOpen.{Node-F, Branch-F, Expr-F
 use Rattle.cov_ctl.specs.declared.formula.Formula.{Formula}
 use Rattle.cov_ctl.specs.declared.formula.Formula.TheVariants as f
 use Rattle.cov_ctl.specs.declared.formula.Formula.TheFolds as formulas
-use Rattle.cov_ctl.specs.Sizes.{size, node_size}
+use Rattle.cov_ctl.specs.Sizes.{size}
 use Rattle.cov_ctl.specs.Temporal.{is_temporal, temporal_layer, temporal_branch, temporal_expr, branch_is_temporal, is_path_operator, is_until}
 use Rattle.cov_ctl.specs.Lowered.{lowered, lowered_one, lowered_two, lowered_layer, written_out, on_node, on_branch, on_expr}
-use Rattle.cov_ctl.specs.Written.{Written, written, written_one, written_two, written_layer, written_branch, written_expr, twice, atom}
+use Rattle.cov_ctl.specs.Written.{Written, written, written_one, written_two, written_layer, written_branch, written_expr, twice}
 
 abbrev put : Span → Node → Expr
 put place m = roll-Expr (record { node = m; place = place })

@@ -1,6 +1,5 @@
 -- The formula that an expression is, its `<->` and `xor` over CTL operators written out.
-use Rattle.std.specs.Prelude.{Bool, true, false, ◌||◌, if◌then◌else◌, List}
-use Rattle.std.specs.List.{list_any}
+use Rattle.std.specs.Prelude.{Bool, ◌||◌, if◌then◌else◌}
 use Rattle.cov_syntax.specs.declared.tree.Op1.{Op1}
 use Rattle.cov_syntax.specs.declared.tree.Op1.TheVariants as op1
 use Rattle.cov_syntax.specs.declared.tree.Op2.{Op2}

@@ -1,5 +1,5 @@
 -- Whether a CTL operator stands in an expression, and where one may stand.
-use Rattle.std.specs.Prelude.{Bool, true, false, not, ◌&&◌, ◌||◌, List, map}
+use Rattle.std.specs.Prelude.{Bool, true, false, ◌||◌, List, map}
 use Rattle.std.specs.List.{list_any}
 use Rattle.cov_syntax.specs.declared.tree.Op1.{Op1}
 use Rattle.cov_syntax.specs.declared.tree.Op1.TheVariants as op1

@@ -1,5 +1,5 @@
 -- The size of a lowered formula, counted on the expression.
-use Rattle.std.specs.Prelude.{ℕ, ◌+◌, ◌*◌, Bool, true, false, ◌||◌, if◌then◌else◌}
+use Rattle.std.specs.Prelude.{ℕ, ◌+◌, Bool, true, false, ◌||◌, if◌then◌else◌}
 use Rattle.std.specs.List.{list_any}
 use Rattle.cov_syntax.specs.declared.tree.Op1.{Op1}
 use Rattle.cov_syntax.specs.declared.tree.Op1.TheVariants as op1

@@ -1,7 +1,9 @@
 ghost use Rattle.std.specs.Prelude.{◌≡◌, ◌≤◌};
+ghost use Rattle.cov_ctl.specs.declared.formula.Formula.TheVariants as node;
+ghost use Rattle.cov_ctl.specs.Constants.{constant_expr};
 ghost use Rattle.cov_ctl.specs.Sizes as spec;
 
-use cov_syntax::Expr;
+use cov_syntax::{Expr, Node, Span, Value};
 use sqlite_items::Boxed;
 
 /// A formula of CTL over fair paths, after Clarke and Emerson (1981). An atom is an expression without CTL operators.
@@ -20,6 +22,16 @@ pub enum Formula {
     Af(Boxed<Formula>),
     Ag(Boxed<Formula>),
     Au(Boxed<Formula>, Boxed<Formula>),
+}
+
+/// The atom TRUE or FALSE. It has no place in a text.
+pub fn constant(truth: bool) -> Formula
+    ensures { result ≡ node.Atom (constant_expr truth) }
+{
+    Formula::Atom(Expr {
+        node: Node::Lit(Value::Bool(truth)),
+        place: Span { start: 0, stop: 0 },
+    })
 }
 
 /// The number of nodes, atoms among them.

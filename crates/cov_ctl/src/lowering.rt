@@ -3,6 +3,7 @@ ghost use Rattle.cov_ctl.specs.Lowered as spec;
 ghost use Rattle.cov_ctl.specs.declared.formula.Formula.TheVariants as f;
 
 use crate::formula::Formula;
+use crate::nodes::{and, every_until, implies, not, or, some_until};
 use crate::temporal::is_temporal;
 use cov_syntax::{Expr, NoMemory, Node, Op1, Op2};
 use sqlite_items::Boxed;
@@ -72,18 +73,9 @@ fn joined(alloc: Global, e: &Expr, op: Op2, a: Formula, b: Formula) -> Result<Fo
     match op {
         Op2::And => and(alloc, a, b),
         Op2::Or => or(alloc, a, b),
-        Op2::Implies => {
-            let a = Boxed::new(alloc, a)?;
-            Ok(Formula::Implies(a, Boxed::new(alloc, b)?))
-        }
-        Op2::Au => {
-            let a = Boxed::new(alloc, a)?;
-            Ok(Formula::Au(a, Boxed::new(alloc, b)?))
-        }
-        Op2::Eu => {
-            let a = Boxed::new(alloc, a)?;
-            Ok(Formula::Eu(a, Boxed::new(alloc, b)?))
-        }
+        Op2::Implies => implies(alloc, a, b),
+        Op2::Au => every_until(alloc, a, b),
+        Op2::Eu => some_until(alloc, a, b),
         _ => atom(alloc, e),
     }
 }
@@ -145,24 +137,4 @@ fn and_not(alloc: Global, a: Formula, b: Formula) -> Result<Formula, NoMemory>
 {
     let not_b = not(alloc, b)?;
     and(alloc, a, not_b)
-}
-
-fn not(alloc: Global, a: Formula) -> Result<Formula, NoMemory>
-    ensures { IfOk result (λ r. r ≡ f.Not a) }
-{
-    Ok(Formula::Not(Boxed::new(alloc, a)?))
-}
-
-fn and(alloc: Global, a: Formula, b: Formula) -> Result<Formula, NoMemory>
-    ensures { IfOk result (λ r. r ≡ f.And a b) }
-{
-    let a = Boxed::new(alloc, a)?;
-    Ok(Formula::And(a, Boxed::new(alloc, b)?))
-}
-
-fn or(alloc: Global, a: Formula, b: Formula) -> Result<Formula, NoMemory>
-    ensures { IfOk result (λ r. r ≡ f.Or a b) }
-{
-    let a = Boxed::new(alloc, a)?;
-    Ok(Formula::Or(a, Boxed::new(alloc, b)?))
 }

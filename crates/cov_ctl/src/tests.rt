@@ -1,5 +1,5 @@
-use crate::{lower, lowered_size, size};
-use cov_syntax::{Expr, NoMemory, Node, Op1, Op2, Span};
+use crate::{Formula, constant, lower, lowered_size, occurrence, polarity, replace, size};
+use cov_syntax::{Expr, NoMemory, Node, Op1, Op2, Span, Value};
 use sqlite_items::Boxed;
 use std::alloc::Global;
 use std::test::Fail;
@@ -74,5 +74,50 @@ fn counting_ends_above_the_limit(rt: HostRuntime) -> Result<(), Fail> {
         e = two(alloc, Op2::Iff, e, q())?;
     }
     assert_eq!(rt; lowered_size(&e), 4097);
+    Ok(())
+}
+
+/// `AG (q -> EX q)`.
+fn response(alloc: Global) -> Result<Formula, NoMemory> {
+    let next = one(alloc, Op1::Ex, q())?;
+    let implied = two(alloc, Op2::Implies, q(), next)?;
+    lower(alloc, &one(alloc, Op1::Ag, implied)?)
+}
+
+/// The formula with TRUE at occurrence `n`, if there is one.
+fn with_true(alloc: Global, f: &Formula, n: u32) -> Result<Option<Formula>, NoMemory> {
+    match polarity(f, n) {
+        Some(_) => Ok(Some(replace(alloc, f, n, &constant(true))?)),
+        None => Ok(None),
+    }
+}
+
+fn is_true(f: Option<&Formula>) -> bool {
+    match f {
+        Some(Formula::Atom(e)) => match &e.node {
+            Node::Lit(Value::Bool(truth)) => *truth,
+            _ => false,
+        },
+        _ => false,
+    }
+}
+
+#[test]
+fn a_premise_is_negative(rt: HostRuntime) -> Result<(), Fail> {
+    let f = response(rt.alloc())?;
+    assert_eq!(rt; polarity(&f, 3), Some(false));
+    assert_eq!(rt; polarity(&f, 5), Some(true));
+    assert_eq!(rt; polarity(&f, 6), None);
+    Ok(())
+}
+
+#[test]
+fn one_occurrence_is_replaced(rt: HostRuntime) -> Result<(), Fail> {
+    let alloc = rt.alloc();
+    let f = response(alloc)?;
+    let replaced = with_true(alloc, &f, 3)?.ok_or("the premise is missing")?;
+    assert!(rt; is_true(occurrence(&replaced, 3)));
+    assert!(rt; !is_true(occurrence(&replaced, 5)));
+    assert!(rt; !is_true(occurrence(&f, 3)));
     Ok(())
 }

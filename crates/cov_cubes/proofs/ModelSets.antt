@@ -19,7 +19,7 @@ use Rattle.cov_nodes.specs.Points.{state_of}
 use Rattle.cov_lifts.proofs.States as lifts
 use Rattle.cov_sym.specs.declared.sys.Sys.{Sys}
 use Rattle.cov_sym.specs.Systems.{IsBuiltFor}
-use Rattle.cov_cubes.specs.States.{present, placed, blank, places_at, IsStateSet}
+use Rattle.cov_cubes.specs.States.{present, placed, blank, places_at, states_in, IsStateSet}
 use Rattle.cov_cubes.specs.Models.{states_of_slot, ModelSetsLaw}
 use Rattle.cov_cubes.proofs.Rows.{length-blank, length-placed, places_above}
 use Rattle.cov_cubes.proofs.Rests.{typed_is}
@@ -50,6 +50,13 @@ length-row_at m sys b s =
 row_names : (m : Model) (sys : Sys) (s : State) → IsTrue (is_typed m s) → state_of m V (row_at m sys s) ≡ s
 row_names m sys s typed = placed_names 0 (sizes m.vars) s (blank sys.space.levels) (subst IsTrue (typed_places m.vars s) typed)
 
+-- a set of rows that are told by their present states, as a set of states
+pub told_states : (m : Model) (sys : Sys) → IsBuiltFor m sys → (set : List Bool) (P : State → Type 0)
+    → ((r : List Bool) → length r ≡ sys.space.levels → IsTrue (lies set r) ↔ P (state_of m V r))
+    → (s : State) → IsTrue (is_typed m s) → IsTrue (states_in (sizes m.vars) sys.space.levels set s) ↔ P s
+told_states m sys b set P exact s typed =
+    subst (λ (t : State). IsTrue (states_in (sizes m.vars) sys.space.levels set s) ↔ P t) (row_names m sys s typed) (exact (row_at m sys s) (length-row_at m sys b s))
+
 -- ---- typed states
 
 state_typed : (m : Model) (s : State) → IsTrue (is_state m s) → IsTrue (are_places (sizes m.vars) s)
@@ -66,7 +73,7 @@ led_typed : (m : Model) (s : State) (path : List State) (t : State) → Leads (s
 led_typed m s [] t leads = step_typed m s t leads.0
 led_typed m s (u ∷ path) t leads = led_typed m u path t leads.1
 
-reachable_typed : (m : Model) (s : State) → IsReachable m s → IsTrue (are_places (sizes m.vars) s)
+pub reachable_typed : (m : Model) (s : State) → IsReachable m s → IsTrue (are_places (sizes m.vars) s)
 reachable_typed m s h = by h.0 h.1 h.2
   where
     by : (path : List State) → IsTrue (is_initial m (first_of path s)) → Leads (structure m) path s → IsTrue (are_places (sizes m.vars) s)
@@ -101,8 +108,7 @@ reachable_is m sys b = record {
 }
 
 pub reachable_are : (m : Model) (sys : Sys) → IsBuiltFor m sys → (s : State) → IsTrue (is_typed m s) → IsTrue (states_of_slot m sys sys.reachable s) ↔ IsReachable m s
-reachable_are m sys b s typed =
-    subst (λ (t : State). IsTrue (states_of_slot m sys sys.reachable s) ↔ IsReachable m t) (row_names m sys s typed) (b.reachable (row_at m sys s) (length-row_at m sys b s))
+reachable_are m sys b = told_states m sys b (set_at sys.space.sets sys.reachable) (IsReachable m) b.reachable
 
 pub model_sets : ModelSetsLaw
 model_sets = record { initial_is = initial_is; initial_cubes = initial_cubes; reachable_is = reachable_is; reachable_are = reachable_are }

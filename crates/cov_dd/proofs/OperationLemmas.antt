@@ -9,7 +9,7 @@ use Rattle.cov_dd.specs.Operations.{value_of, applied, negated, put, restricted}
 use Rattle.cov_dd.proofs.Diagrams.{den_by_agree}
 use Rattle.cov_dd.proofs.Growth.{keeps}
 use Rattle.cov_dd.proofs.Rows.{put_is_set, get_or-put_same, get_or-put_other}
-use Rattle.cov_dd.proofs.Recursion.{Wanted, Halved}
+use Rattle.cov_dd.specs.Questions.{Halved, on_two, negation_of, restriction_of}
 
 -- ---- two functions
 
@@ -23,10 +23,6 @@ splits_applied levels level op f fl fh g gl gh p q = record {
   at_high = λ row len. ap (λ b. value_of op b (gh row)) (p.at_high row len) ∙ ap (λ b. value_of op (f (set row level true)) b) (q.at_high row len);
   choice = λ row. choice_applied op (get_or row level false) _ _ _ _ _ _ (p.choice row) (q.choice row);
 }
-
--- an operation on two diagrams
-abbrev pub on_two : Op → Ref → Ref → Wanted
-on_two op f g = record { function = λ t. applied op (den t.nodes f) (den t.nodes g); top = λ t. top_of t f g }
 
 pub halved_two : (s : TableOf) (op : Op) (f g : Ref) (level : ℕ) (fl fh gl gh : Ref) → IsTable s.levels s.nodes → level ≡ top_of s f g → SplitsAt s level f fl fh → SplitsAt s level g gl gh → Halved s level (on_two op f g) (on_two op fl gl) (on_two op fh gh)
 halved_two s op f g level fl fh gl gh table top p q = record {
@@ -60,10 +56,6 @@ splits_negated levels level f fl fh p = record {
   at_high = λ row len. ap not (p.at_high row len);
   choice = λ row. choice_not (get_or row level false) _ _ _ (p.choice row);
 }
-
--- the negation of a diagram
-abbrev pub negation_of : Ref → Wanted
-negation_of f = record { function = λ t. negated (den t.nodes f); top = λ t. level_of t.levels t.nodes f }
 
 -- a diagram keeps its level
 below_grown : (s t : TableOf) (level : ℕ) (r : Ref) → IsTable s.levels s.nodes → Extends s t → IsBelow s.levels s.nodes level r → level < level_of t.levels t.nodes r
@@ -105,10 +97,6 @@ splits_restricted levels level k b f fl fh ne lt p = record {
         ap part (put_is_set row k b room)
         ∙ at (set row k b) (length-set row k b ∙ len)
         ∙ ap f (set_comm row k level b v (λ e. ne (sym e)) ∙ sym (put_is_set (set row level v) k b room'))
-
--- a diagram with one bit fixed
-abbrev pub restriction_of : ℕ → Bool → Ref → Wanted
-restriction_of k b f = record { function = λ t. restricted k b (den t.nodes f); top = λ t. level_of t.levels t.nodes f }
 
 pub halved_restriction : (s : TableOf) (f : Ref) (level : ℕ) (fl fh : Ref) (k : ℕ) (b : Bool) → IsTable s.levels s.nodes → level ≡ level_of s.levels s.nodes f → SplitsAt s level f fl fh → level ≢ k → k < s.levels → Halved s level (restriction_of k b f) (restriction_of k b fl) (restriction_of k b fh)
 halved_restriction s f level fl fh k b table top p ne lt = record {

@@ -4,26 +4,13 @@ use Rattle.cov_dd.specs.declared.node.Ref.{Ref}
 use Rattle.cov_dd.specs.declared.fault.Full.{Full}
 use Rattle.cov_dd.specs.declared.fault.TableFault.{TableFault}
 use Rattle.cov_dd.specs.declared.fault.TableFault.TheVariants as fault
-use Rattle.cov_dd.specs.Nodes.{TableOf, den, level_of, IsTable, IsBelow, Extends, Denotes, chosen}
-use Rattle.cov_dd.specs.Cofactors.{Computes, IsMissing, IsRefused, IsFault, Splits, fault_of}
+use Rattle.cov_dd.specs.Nodes.{TableOf, den, level_of, IsBelow, Extends, Denotes, chosen}
+use Rattle.cov_dd.specs.Cofactors.{Computes, IsMissing, IsRefused, IsFault, fault_of}
+use Rattle.cov_dd.specs.Questions.{Wanted, Halved}
 use Rattle.cov_dd.proofs.Diagrams.{cond_both}
 use Rattle.cov_dd.proofs.Growth.{keeps}
 use Rattle.cov_dd.proofs.CofactorLemmas.{missing_lift, missing_same}
 use Rattle.cov_dd.proofs.Splitting.{computes_lift, computes_trans, computes_same}
-
--- what is asked of a table: a function, and its first level
-pub record Wanted : Type 0 where
-  pub function : TableOf → List Bool → Bool
-  pub top : TableOf → ℕ
-
--- what is wanted was split at its first level
-pub record Halved (s : TableOf) (level : ℕ) (whole low high : Wanted) : Type 0 where
-  pub table : IsTable s.levels s.nodes
-  pub top : level ≡ whole.top s
-  pub splits : Splits s.levels level (whole.function s) (low.function s) (high.function s)
-  pub below_low : level < low.top s
-  pub below_high : (t : TableOf) → Extends s t → level < high.top t
-  pub same_high : (t : TableOf) → Extends s t → (row : List Bool) → high.function t row ≡ high.function s row
 
 -- a refusal, of which a lemma on the missing cofactor is enough
 pub fault_lift : (t : TableOf) (top top' : ℕ) (f g : List Bool → Bool) → (IsMissing t top f → IsMissing t top' g) → (e : TableFault) → IsFault t top f e → IsFault t top' g e

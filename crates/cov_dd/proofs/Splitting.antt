@@ -5,6 +5,7 @@ use Rattle.cov_dd.specs.declared.node.Ref.TheVariants.{Inner}
 use Rattle.cov_dd.specs.declared.node.Part.{Part}
 use Rattle.cov_dd.specs.Nodes.{TableOf, node_at, rank, level_of, den, IsPlaced, IsTable, IsLive, Keeps}
 use Rattle.cov_dd.specs.Cofactors.{Computes, SplitsAt}
+use Rattle.cov_dd.specs.Reached.Reaches.{here, by_low, by_high}
 use Rattle.cov_dd.proofs.Diagrams.{den_node}
 use Rattle.cov_dd.proofs.Canonical.{den_skip, den_low, den_high}
 use Rattle.cov_dd.proofs.Growth.{keeps, extends_trans}
@@ -20,6 +21,8 @@ split_at t table i node within is =
     subst P (sym is) (record {
       below_low = record { live = omega arith; ordered = placed.low_ordered };
       below_high = record { live = omega arith; ordered = placed.high_ordered };
+      part_low = by_low i (node_at t.nodes i).low (here (node_at t.nodes i).low);
+      part_high = by_high i (node_at t.nodes i).high (here (node_at t.nodes i).high);
       rank_low = omega arith;
       rank_high = omega arith;
       falls_low = λ _. omega arith;
@@ -40,6 +43,8 @@ pub split_skip : (t : TableOf) → IsTable t.levels t.nodes → (level : ℕ) (f
 split_skip t table level f live below = record {
   below_low = record { live = live; ordered = below };
   below_high = record { live = live; ordered = below };
+  part_low = here f;
+  part_high = here f;
   rank_low = omega arith;
   rank_high = omega arith;
   falls_low = λ e. absurd (omega arith);

@@ -6,6 +6,7 @@ use Rattle.cov_dd.specs.declared.fault.Full.{Full}
 use Rattle.cov_dd.specs.declared.fault.TableFault.{TableFault}
 use Rattle.cov_dd.specs.declared.fault.TableFault.TheVariants as fault
 use Rattle.cov_dd.specs.Nodes.{TableOf, node_at, den, rank, level_of, IsTable, IsBelow, Extends, chosen}
+use Rattle.cov_dd.specs.Reached.{Reaches}
 
 -- a function with its first bits fixed
 abbrev pub fixed : (List Bool → Bool) → List Bool → List Bool → Bool
@@ -45,6 +46,8 @@ pub record Splits (levels level : ℕ) (function low high : List Bool → Bool) 
 pub record SplitsAt (t : TableOf) (level : ℕ) (f low high : Ref) : Type 0 where
   pub below_low : IsBelow t.levels t.nodes level low
   pub below_high : IsBelow t.levels t.nodes level high
+  pub part_low : Reaches t.nodes f low
+  pub part_high : Reaches t.nodes f high
   pub rank_low : rank low ≤ rank f
   pub rank_high : rank high ≤ rank f
   pub falls_low : level ≡ level_of t.levels t.nodes f → rank low < rank f

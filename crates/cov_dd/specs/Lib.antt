@@ -1,7 +1,11 @@
 pub mod Nodes
+pub mod Chains
 pub mod Cofactors
 pub mod Operations
 pub mod Need
 pub mod Moved
 pub mod Reached
+pub mod Questions
+pub mod Memo
+pub mod Size
 pub mod Laws

@@ -79,13 +79,6 @@ pub record IsTable (levels : ℕ) (nodes : List Part) : Type 0 where
 abbrev pub SameFunction : ℕ → List Part → Ref → Ref → Type 0
 SameFunction levels nodes f g = (row : List Bool) → length row ≡ levels → den nodes f row ≡ den nodes g row
 
--- what a table keeps, in a list that has room for as many nodes as the budget
-pub record IsKept (levels budget : ℕ) (nodes : List Part) (capacity : ℕ) : Type 0 where
-  pub table : IsTable levels nodes
-  pub within : length nodes ≤ budget
-  pub room : budget ≤ capacity
-  pub small : budget < 2 ^ 32
-
 -- no node that stands tests this level with these children, and they differ
 pub record IsNew (nodes : List Part) (level : ℕ) (low high : Ref) : Type 0 where
   pub differ : low ≢ high

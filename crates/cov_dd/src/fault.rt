@@ -43,3 +43,14 @@ impl From<Full> for TableFault {
         }
     }
 }
+
+impl From<NoMemory> for TableFault {
+    ghost use Rattle.std.specs.Prelude.{◌≡◌};
+    ghost use Rattle.cov_dd.specs.declared.fault.TableFault.TheVariants as cause;
+
+    ghost from_gives = { λ _ e. e ≡ cause.Memory };
+
+    fn from(_: NoMemory) -> TableFault {
+        TableFault::Memory
+    }
+}

@@ -1,11 +1,15 @@
 //! Reduced ordered binary decision diagrams in one table of nodes with a budget.
 #![tactic(auto)]
 
+mod answers;
+mod chains;
 mod collection;
 mod fault;
 mod laws;
+mod memo;
 mod node;
 mod operations;
+mod questions;
 mod refs;
 mod store;
 mod table;

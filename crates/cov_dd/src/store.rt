@@ -4,6 +4,7 @@ ghost use Rattle.cov_dd.specs.Cofactors.{Computes, IsRefused, SplitsAt};
 ghost use Rattle.cov_dd.specs.Reached.{AllLive, IsCollected, SizeIsNeed};
 ghost use Rattle.cov_dd.specs.Operations.{Ignores};
 
+use crate::chains::Chains;
 use crate::collection::{gather, level_reached};
 use crate::fault::{Full, NoMemory};
 use crate::node::{Part, Ref};
@@ -18,17 +19,19 @@ pub struct Store {
     budget: u32,
     calls: u64,
     nodes: Vec<Part>,
+    chains: Chains,
 }
 
 impl Model for Store {
     ghost use Rattle.std.specs.Prelude.{vec_capacity};
-    ghost use Rattle.cov_dd.specs.Nodes.{TableOf, IsKept};
+    ghost use Rattle.cov_dd.specs.Nodes.{TableOf};
+    ghost use Rattle.cov_dd.specs.Chains.{IsKept};
 
     ghost Value = { TableOf };
 
     ghost view = { λ s. record { levels = s.levels; budget = s.budget; calls = s.calls; nodes = s.nodes.items } };
 
-    ghost invariant = { λ s. IsKept s.levels s.budget s.nodes.items (vec_capacity s.nodes) };
+    ghost invariant = { λ s. IsKept s.levels s.budget s.nodes.items s.chains (vec_capacity s.nodes) };
 }
 
 impl Store {
@@ -37,12 +40,14 @@ impl Store {
         ensures { IfOk result (λ s. s ≡ record { levels = levels; budget = budget; calls = 0; nodes = [] }) }
     {
         let nodes = Vec::with_capacity(alloc, budget as usize)?;
+        let chains = Chains::make(alloc, budget)?;
         Ok(Store {
             alloc,
             levels,
             budget,
             calls: 0,
             nodes,
+            chains,
         })
     }
 
@@ -92,7 +97,7 @@ impl Store {
             return Ok(low);
         }
         let node = Part { level, low, high };
-        match find(self.nodes.as_slice(), node) {
+        match self.chains.find(self.nodes.as_slice(), node) {
             Some(place) => Ok(Ref::Inner(place)),
             None => self.add(node),
         }
@@ -115,6 +120,7 @@ impl Store {
                 budget: self.budget,
             });
         }
+        self.chains.push(node);
         self.nodes.push_reserved(node);
         Ok(Ref::Inner(held))
     }
@@ -206,6 +212,7 @@ impl Store {
             places.as_mut_slice(),
         );
         self.nodes.truncate(kept as usize);
+        self.chains.rebuild(self.nodes.as_slice());
         Ok(())
     }
 
@@ -219,17 +226,4 @@ impl Store {
         let mut marks = vec![in self.alloc; false; count]?;
         Ok(level_reached(self.nodes.as_slice(), f, level, marks.as_mut_slice()))
     }
-}
-
-/// The place of a node in a list.
-fn find(nodes: &[Part], node: Part) -> Option<u32>
-    requires { length nodes.now < 2 ^ 32 }
-    ensures { MatchOption result ((k : ℕ) → k < length nodes.now → node_at nodes.now k ≢ node) (λ i. (i < length nodes.now) × (node_at nodes.now i ≡ node)) }
-{
-    for (i, other) in nodes.iter().enumerate() {
-        if *other == node {
-            return Some(i as u32);
-        }
-    }
-    None
 }

@@ -1,12 +1,16 @@
-ghost use Rattle.std.specs.Prelude.{true, false, ◌≡◌, ◌<◌, ◌≤◌, ◌↔◌, [], length, map, IsErr, IsTrue, IfOk, IfErr, IfSome, OnOk, OnErr};
+ghost use Rattle.std.specs.Prelude.{true, false, ◌≡◌, ◌+◌, ◌*◌, ◌<◌, ◌≤◌, ◌↔◌, [], length, map, IsErr, IsTrue, IfOk, IfErr, IfSome, OnOk, OnErr};
 ghost use Rattle.cov_dd.specs.Nodes.{TableOf, den, level_of, top_of, part_of, IsLive, IsTable, IsBelow, IsNew, Answers, counted, Keeps, Denotes, chosen, SameFunction};
 ghost use Rattle.cov_dd.specs.Cofactors.{Computes, IsRefused, IsFault};
 ghost use Rattle.cov_dd.specs.Operations.{applied, negated, restricted, Ignores};
+ghost use Rattle.cov_dd.specs.Size.{size};
 ghost use Rattle.cov_dd.specs.Reached.{AllLive, IsCollected, SizeIsNeed};
 
+use crate::answers::answer;
 use crate::fault::{Full, NoMemory, TableFault};
+use crate::memo::Memo;
 use crate::node::{Part, Ref};
-use crate::operations::{Op, apply, negate, restrict};
+use crate::operations::Op;
+use crate::questions::Question;
 use crate::refs::Refs;
 use crate::store::Store;
 use std::alloc::Global;
@@ -16,14 +20,18 @@ use std::marker::Model;
 #[derive(Drop)]
 pub struct Table {
     store: Store,
+    memo: Memo,
 }
 
 impl Model for Table {
     ghost use Rattle.cov_dd.specs.Nodes.{TableOf};
+    ghost use Rattle.cov_dd.specs.Memo.{AllRight};
 
     ghost Value = { TableOf };
 
     ghost view = { λ t. t.store };
+
+    ghost invariant = { λ t. AllRight t.store t.memo };
 }
 
 impl Table {
@@ -33,6 +41,7 @@ impl Table {
     {
         Ok(Table {
             store: Store::make(alloc, levels, budget)?,
+            memo: Memo::new(alloc),
         })
     }
 
@@ -107,9 +116,11 @@ impl Table {
         ensures keeps { (r : Ref) → IsLive self.old.nodes r → Keeps self.old self.new r }
         ensures computes { Computes self.old self.new (top_of self.old f g) (applied op (den self.old.nodes f) (den self.old.nodes g)) }
         ensures err { IfErr result (λ e. IsFault self.new (top_of self.old f g) (applied op (den self.old.nodes f) (den self.old.nodes g)) e) }
+        ensures calls { self.new.calls ≤ self.old.calls + size self.old.nodes f * size self.old.nodes g }
     {
         let _held = self.store.held();
-        apply(&mut self.store, op, f, g)
+        self.memo.bound();
+        answer(&mut self.store, &mut self.memo, Question::Apply(op, f, g))
     }
 
     /// The negation of a function.
@@ -120,9 +131,11 @@ impl Table {
         ensures keeps { (r : Ref) → IsLive self.old.nodes r → Keeps self.old self.new r }
         ensures computes { Computes self.old self.new (level_of self.old.levels self.old.nodes f) (negated (den self.old.nodes f)) }
         ensures err { IfErr result (λ e. IsFault self.new (level_of self.old.levels self.old.nodes f) (negated (den self.old.nodes f)) e) }
+        ensures calls { self.new.calls ≤ self.old.calls + size self.old.nodes f }
     {
         let _held = self.store.held();
-        negate(&mut self.store, f)
+        self.memo.bound();
+        answer(&mut self.store, &mut self.memo, Question::Negate(f))
     }
 
     /// A function with the bit of one level fixed: a cofactor of it.
@@ -134,9 +147,15 @@ impl Table {
         ensures keeps { (r : Ref) → IsLive self.old.nodes r → Keeps self.old self.new r }
         ensures computes { Computes self.old self.new (level_of self.old.levels self.old.nodes f) (restricted level bit (den self.old.nodes f)) }
         ensures err { IfErr result (λ e. IsFault self.new (level_of self.old.levels self.old.nodes f) (restricted level bit (den self.old.nodes f)) e) }
+        ensures calls { self.new.calls ≤ self.old.calls + size self.old.nodes f }
     {
         let _held = self.store.held();
-        restrict(&mut self.store, f, level, bit)
+        self.memo.bound();
+        answer(
+            &mut self.store,
+            &mut self.memo,
+            Question::Restrict(f, level, bit),
+        )
     }
 
     /// Whether two diagrams are of one function. It takes no memory.
@@ -176,7 +195,7 @@ impl Table {
         ensures held { OnOk result (SizeIsNeed self.new keep.new) }
         ensures err { OnErr result ((self.new ≡ self.old) × (keep.new ≡ keep.old)) }
     {
-        self.store.collect(keep.items.as_mut_slice())
+        self.collect_slice(keep.items.as_mut_slice())
     }
 
     /// As `collect`, for diagrams in a slice.
@@ -187,7 +206,9 @@ impl Table {
         ensures held { OnOk result (SizeIsNeed self.new keep.new) }
         ensures err { OnErr result ((self.new ≡ self.old) × (keep.new ≡ keep.old)) }
     {
-        self.store.collect(keep)
+        self.store.collect(keep)?;
+        self.memo.clear();
+        Ok(())
     }
 
     /// Whether a function depends on the bit of a level.

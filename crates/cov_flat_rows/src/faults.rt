@@ -12,46 +12,49 @@ fn fault_of(alloc: Global, text: &[u8]) -> Option<(u8, u32)> {
     }
 }
 
+/// Texts, the faults that they have, and where these begin.
+const FAULTS: [(&str, FaultKind, u32); 12] = [
+    ("MODULE m", FaultKind::NoMain, 0),
+    ("MODULE main VAR a : m;", FaultKind::UnknownModule, 20),
+    ("MODULE main VAR a : main;", FaultKind::RecursiveModule, 20),
+    (
+        "MODULE main VAR a : m; MODULE m(p)",
+        FaultKind::WrongArguments,
+        20,
+    ),
+    (
+        "MODULE main VAR a : boolean; a : boolean;",
+        FaultKind::DuplicateName,
+        29,
+    ),
+    ("MODULE main INIT z", FaultKind::UnknownName, 17),
+    ("MODULE main VAR a : {a, b};", FaultKind::NameClash, 16),
+    (
+        "MODULE main VAR a : boolean; ASSIGN a := 0; init(a) := 0;",
+        FaultKind::DoubleAssign,
+        49,
+    ),
+    (
+        "MODULE main DEFINE a := 1; ASSIGN a := 0;",
+        FaultKind::UnknownName,
+        34,
+    ),
+    ("MODULE main ASSIGN z := y;", FaultKind::UnknownName, 19),
+    (
+        "MODULE main VAR a : m(z); MODULE m(p)",
+        FaultKind::UnknownName,
+        22,
+    ),
+    (
+        "MODULE main VAR c : boolean; a : m(c); b : m(c); MODULE m(p) ASSIGN next(p) := 0;",
+        FaultKind::DoubleAssign,
+        73,
+    ),
+];
+
 #[test]
 fn each_fault_has_its_kind_and_its_place(rt: HostRuntime) {
-    for (text, kind, start) in [
-        ("MODULE m", FaultKind::NoMain, 0),
-        ("MODULE main VAR a : m;", FaultKind::UnknownModule, 20),
-        ("MODULE main VAR a : main;", FaultKind::RecursiveModule, 20),
-        (
-            "MODULE main VAR a : m; MODULE m(p)",
-            FaultKind::WrongArguments,
-            20,
-        ),
-        (
-            "MODULE main VAR a : boolean; a : boolean;",
-            FaultKind::DuplicateName,
-            29,
-        ),
-        ("MODULE main INIT z", FaultKind::UnknownName, 17),
-        ("MODULE main VAR a : {a, b};", FaultKind::NameClash, 16),
-        (
-            "MODULE main VAR a : boolean; ASSIGN a := 0; init(a) := 0;",
-            FaultKind::DoubleAssign,
-            49,
-        ),
-        (
-            "MODULE main DEFINE a := 1; ASSIGN a := 0;",
-            FaultKind::UnknownName,
-            34,
-        ),
-        ("MODULE main ASSIGN z := y;", FaultKind::UnknownName, 19),
-        (
-            "MODULE main VAR a : m(z); MODULE m(p)",
-            FaultKind::UnknownName,
-            22,
-        ),
-        (
-            "MODULE main VAR c : boolean; a : m(c); b : m(c); MODULE m(p) ASSIGN next(p) := 0;",
-            FaultKind::DoubleAssign,
-            73,
-        ),
-    ] {
+    for (text, kind, start) in FAULTS {
         assert_eq!(rt;
             fault_of(rt.alloc(), text.as_bytes()),
             Some((kind.code(), start))

@@ -4,5 +4,4 @@ pub mod Forms
 pub mod Standing
 pub mod Turning
 pub mod Putting
-pub mod Shapes
 pub mod Outside

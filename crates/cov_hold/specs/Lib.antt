@@ -1,4 +1,3 @@
-pub mod Formulas
 pub mod Prepared
 pub mod Truths
 pub mod Refuted

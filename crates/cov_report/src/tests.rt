@@ -1,9 +1,14 @@
 ghost use Rattle.std.specs.Prelude.{◌≡◌, [], ◌∷◌, length, IfOk, IsTrue};
 ghost use Rattle.cov_show.specs.Cubes.{counts, is_cube};
 
-use crate::{no_fair_line, no_specs_line, set_lines};
+use crate::{
+    Note, no_fair_line, no_specs_line, note_line, occurrence_line, set_lines, signal_line,
+    spec_line,
+};
+use cov_ctl::Formula;
 use cov_model::{Cube, CubeList, Model, Var};
-use cov_syntax::{Names, NoMemory, Seq, Span, Value};
+use cov_syntax::{Expr, Names, NoMemory, Node, Seq, Span, Text, Value};
+use sqlite_items::Boxed;
 use std::alloc::Global;
 use std::test::Fail;
 
@@ -108,6 +113,38 @@ fn an_empty_set_is_none(rt: HostRuntime) -> Result<(), Fail> {
     no_specs_line(&mut text)?;
     set_lines(alloc, &m, b"initial", &list, 0, &mut text)?;
     let wanted = "no fair initial state\nno specifications\ninitial\n  none\n";
+    assert!(rt; text.as_slice() == wanted.as_bytes());
+    Ok(())
+}
+
+/// The variable `a.out` as a formula.
+fn out() -> Formula {
+    let place = Span { start: 0, stop: 0 };
+    Formula::Atom(Expr {
+        node: Node::Var(1),
+        place,
+    })
+}
+
+/// The lines of `AG a.out`, which passes, and of its two subformulas.
+fn put_passing(alloc: Global, m: &Model, into: &mut Text) -> Result<(), NoMemory> {
+    let always = Formula::Ag(Boxed::new(alloc, out())?);
+    spec_line(alloc, m, 3, true, &always, into)?;
+    occurrence_line(alloc, m, 12, true, &out(), into)?;
+    occurrence_line(alloc, m, 13, false, &always, into)
+}
+
+#[test]
+fn a_specification_has_its_lines(rt: HostRuntime) -> Result<(), Fail> {
+    let alloc = rt.alloc();
+    let m = model(alloc)?;
+    let mut text = Seq::new(alloc);
+    put_passing(alloc, &m, &mut text)?;
+    signal_line(b"a.out", &mut text)?;
+    spec_line(alloc, &m, 10, false, &out(), &mut text)?;
+    note_line(Note::NotMeasured, 2, &mut text)?;
+    let wanted =
+        "spec 3 passes: AG a.out\n  occurrence 12 vacuous: a.out\n  occurrence 13 matters: AG a.out\n  signal a.out\nspec 10 fails: a.out\n  fails, not measured\n";
     assert!(rt; text.as_slice() == wanted.as_bytes());
     Ok(())
 }

@@ -11,7 +11,25 @@ use std::test::Fail;
 /// One bit; 99 * 2^3 nodes are enough for it.
 const TOGGLE: &str = "MODULE main VAR q : boolean; ASSIGN init(q) := FALSE; next(q) := !q;";
 
-const REPORT: &str = "reachable\n  all\n";
+/// The same with a property; 243 * 2^3 nodes are enough for it.
+const COVERED: &str =
+    "MODULE main VAR q : boolean; ASSIGN init(q) := FALSE; next(q) := !q; SPEC AG (!q -> AX q) & AG (q -> AX !q)";
+
+/// What is run, and its whole report.
+#[derive(Clone, Copy)]
+struct Case<'a> {
+    words: &'a [&'a str],
+    model: &'a str,
+    report: &'a str,
+}
+
+const COVERED_REPORT: &str = "spec 1 passes: AG (!q -> AX q) & AG (q -> AX !q)
+  signal q
+    covered
+      all
+    uncovered
+      none
+";
 
 /// How a run ends.
 #[derive(Clone, Copy)]
@@ -26,21 +44,24 @@ struct End {
     budget: u32,
 }
 
-/// The words `reach M` with a node budget.
-fn words(alloc: Global, budget: u32) -> Result<Vec<String>, Fail> {
+/// The words with a node budget.
+fn words(alloc: Global, given: &[&str], budget: u32) -> Result<Vec<String>, Fail> {
     let mut buffer = Buffer::new();
     let mut words = Vec::new(alloc);
-    for word in ["reach", "M", "--nodes", buffer.format(budget)] {
+    for word in given {
+        words.push(String::from_str(alloc, word)?)?;
+    }
+    for word in ["--nodes", buffer.format(budget)] {
         words.push(String::from_str(alloc, word)?)?;
     }
     Ok(words)
 }
 
-/// Runs `reach` on a model with a node budget.
-fn reach(alloc: Global, model: &str, budget: u32) -> Result<End, Fail> {
-    let words = words(alloc, budget)?;
+/// Runs with a node budget.
+fn end_of(alloc: Global, case: Case<'_>, budget: u32) -> Result<End, Fail> {
+    let words = words(alloc, case.words, budget)?;
     let mut files = MemFiles::new(alloc);
-    files.add(b"M", model.as_bytes())?;
+    files.add(b"M", case.model.as_bytes())?;
     let mut out = MemSink::new(alloc, 1_000_000);
     let mut err = MemSink::new(alloc, 1_000_000);
     let mut meter = Meter::new();
@@ -54,7 +75,7 @@ fn reach(alloc: Global, model: &str, budget: u32) -> Result<End, Fail> {
     );
     Ok(End {
         status,
-        whole: out.bytes() == REPORT.as_bytes(),
+        whole: out.bytes() == case.report.as_bytes(),
         nothing: out.bytes().is_empty(),
         count: meter.count(),
         levels: meter.levels(),
@@ -80,24 +101,52 @@ fn expect_whole(rt: &impl Abort, end: &End) {
     assert_eq!(rt; end.status.code(), 0);
 }
 
-#[test]
-fn every_budget_of_a_model_of_one_bit(rt: HostRuntime) -> Result<(), Fail> {
-    for budget in 1..793 {
-        let end = reach(rt.alloc(), TOGGLE, budget)?;
+/// At each budget below the bound the report is whole or the nodes ran out, and at the bound it is whole.
+fn every_budget(rt: &impl Abort, alloc: Global, case: Case<'_>, enough: u32) -> Result<(), Fail> {
+    for budget in 1..enough {
+        let end = end_of(alloc, case, budget)?;
         match end.status {
-            Status::Nodes(full) => expect_short(&rt, &end, full, 3, budget),
-            _ => expect_whole(&rt, &end),
+            Status::Nodes(full) => expect_short(rt, &end, full, 3, budget),
+            _ => expect_whole(rt, &end),
         }
     }
-    let enough = reach(rt.alloc(), TOGGLE, 792)?;
-    expect_whole(&rt, &enough);
+    let end = end_of(alloc, case, enough)?;
+    expect_whole(rt, &end);
     Ok(())
+}
+
+#[test]
+fn reachable_states_of_one_bit(rt: HostRuntime) -> Result<(), Fail> {
+    let words = ["reach", "M"];
+    let case = Case {
+        words: &words,
+        model: TOGGLE,
+        report: "reachable\n  all\n",
+    };
+    every_budget(&rt, rt.alloc(), case, 792)
+}
+
+#[test]
+fn covered_states_of_one_bit(rt: HostRuntime) -> Result<(), Fail> {
+    let words = ["cover", "M", "q"];
+    let case = Case {
+        words: &words,
+        model: COVERED,
+        report: COVERED_REPORT,
+    };
+    every_budget(&rt, rt.alloc(), case, 1944)
 }
 
 #[test]
 fn one_node(rt: HostRuntime) -> Result<(), Fail> {
     let model = "MODULE main VAR a : boolean; b : boolean; INIT !(a & b)";
-    let end = reach(rt.alloc(), model, 1)?;
+    let words = ["reach", "M"];
+    let case = Case {
+        words: &words,
+        model,
+        report: "",
+    };
+    let end = end_of(rt.alloc(), case, 1)?;
     match end.status {
         Status::Nodes(full) => expect_short(&rt, &end, full, 6, 1),
         other => assert_eq!(rt; other.code(), 6),

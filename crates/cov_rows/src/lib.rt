@@ -6,6 +6,8 @@ mod budgets;
 #[cfg(test)]
 mod check;
 #[cfg(test)]
+mod cover;
+#[cfg(test)]
 mod failures;
 #[cfg(test)]
 mod faults;
@@ -17,5 +19,7 @@ mod readings;
 mod runs;
 #[cfg(test)]
 mod states;
+#[cfg(test)]
+mod vacuity;
 #[cfg(test)]
 mod words;

@@ -17,7 +17,7 @@ use Rattle.cov_syntax.specs.Reading.{ReadsInt, ReadsName, ReadsPath}
 use Rattle.cov_syntax.specs.Reading.{ReadsSeparated.last, ReadsSeparated.more, ReadsInt.plain, ReadsInt.minus, ReadsName.name}
 use Rattle.cov_syntax.specs.Texts.{IsDistinctTexts}
 use Rattle.cov_syntax.specs.Tokens.{Text, begins_name, name_len, spelled_word, front, front_mark}
-use Rattle.cov_show.specs.Printing.{name_labels, path_text}
+use Rattle.cov_show.specs.Printing.{path_text}
 use Rattle.cov_show.specs.ReadAgain.{is_name, is_named}
 use Rattle.cov_show.proofs.WrittenTexts.{Written, word, lexeme_before}
 use Rattle.cov_show.proofs.WordLemmas.{IsClear, Opens, Opens-digit, front-name, front-decimal, front-minus, front-dot, value_of-decimal, first_digit, digit_begins}
@@ -172,32 +172,32 @@ module _ (total : ℕ) (names : List Text) (distinct : IsDistinctTexts names) wh
   reads_name t ys i e v = subst (λ (j : ℕ). ReadsName (t ∷ ys) j ys) v (name e)
 
   path_last : (i : ℕ) → is_named names i ≡ true → (rest : Text) (ys : Lexemes) → IsClear rest → Written total names rest ys
-      → RereadsPath total names (path_text (name_labels names) [] (i ∷ []) ++ rest) (i ∷ []) ys
+      → RereadsPath total names (path_text names [] (i ∷ []) ++ rest) (i ∷ []) ys
   path_last i e rest ys c h =
       let q = again_name i e rest ys c h in
       subst (λ (z : Text). RereadsPath total names (z ++ rest) (i ∷ []) ys) (sym (append-nil (label i)))
       (record { xs = q.t ∷ ys; written = q.written; reads = last (reads_name q.t ys i q.is_name q.value); begins = q.begins; is_name = q.is_name })
 
-  path_more : (i : ℕ) (path : List ℕ) → is_named names i ≡ true → path_text (name_labels names) (codes ".") path ≡ 46 ∷ path_text (name_labels names) [] path
-      → (rest : Text) (ys : Lexemes) → RereadsPath total names (path_text (name_labels names) [] path ++ rest) path ys
-      → RereadsPath total names (path_text (name_labels names) [] (i ∷ path) ++ rest) (i ∷ path) ys
+  path_more : (i : ℕ) (path : List ℕ) → is_named names i ≡ true → path_text names (codes ".") path ≡ 46 ∷ path_text names [] path
+      → (rest : Text) (ys : Lexemes) → RereadsPath total names (path_text names [] path ++ rest) path ys
+      → RereadsPath total names (path_text names [] (i ∷ path) ++ rest) (i ∷ path) ys
   unfolding front front_mark
   path_more i path e dotted rest ys q =
-      let z : Text = path_text (name_labels names) [] path ++ rest in
+      let z : Text = path_text names [] path ++ rest in
       let dot : Lexeme = lexeme_before total names (token.Mark 9) (46 ∷ []) z in
       let marked : Written total names (46 ∷ z) (dot ∷ q.xs) = word (token.Mark 9) (46 ∷ []) z (omega arith) (front-dot z q.begins) q.written in
       let p = again_name i e (46 ∷ z) (dot ∷ q.xs) (clear_dot z) marked in
-      let is : label i ++ (46 ∷ z) ≡ path_text (name_labels names) [] (i ∷ path) ++ rest =
-      sym (append_assoc (label i) (46 ∷ path_text (name_labels names) [] path) rest) ∙ ap (λ (y : Text). (label i ++ y) ++ rest) (sym dotted) in
+      let is : label i ++ (46 ∷ z) ≡ path_text names [] (i ∷ path) ++ rest =
+      sym (append_assoc (label i) (46 ∷ path_text names [] path) rest) ∙ ap (λ (y : Text). (label i ++ y) ++ rest) (sym dotted) in
       subst (λ (y : Text). RereadsPath total names y (i ∷ path) ys) is
       (record { xs = p.t ∷ dot ∷ q.xs; written = p.written; reads = more refl (reads_name p.t (dot ∷ q.xs) i p.is_name p.value) q.reads; begins = p.begins; is_name = p.is_name })
 
-  dotted : {xs ys : Lexemes} {path : List ℕ} → ReadsPath xs path ys → path_text (name_labels names) (codes ".") path ≡ 46 ∷ path_text (name_labels names) [] path
+  dotted : {xs ys : Lexemes} {path : List ℕ} → ReadsPath xs path ys → path_text names (codes ".") path ≡ 46 ∷ path_text names [] path
   dotted (last p) = refl
   dotted (more e p q) = refl
 
   pub again_path : {ps qs : Lexemes} {path : List ℕ} → ReadsPath ps path qs → list_all (is_named names) path ≡ true
-      → (rest : Text) (ys : Lexemes) → IsClear rest → Written total names rest ys → RereadsPath total names (path_text (name_labels names) [] path ++ rest) path ys
+      → (rest : Text) (ys : Lexemes) → IsClear rest → Written total names rest ys → RereadsPath total names (path_text names [] path ++ rest) path ys
   again_path (last {a = i} p) e rest ys c h = path_last i (and_parts (is_named names i) true e).0 rest ys c h
   again_path (more {a = i} {as' = path} d p q) e rest ys c h =
       let named = and_parts (is_named names i) (list_all (is_named names) path) e in

@@ -1,4 +1,5 @@
 pub mod PrintingLemmas
+pub mod FormulaLemmas
 pub mod CubeLemmas
 pub mod Folds
 pub mod WrittenTexts

@@ -297,7 +297,7 @@ module _ (total : ℕ) (names : List Text) where
 
   -- ---- leaves
 
-  shown_lit : (v : Value) (xs ys : Lexemes) → shown (at (n.Lit v) xs ys) ≡ value_printed (name_labels names) v
+  shown_lit : (v : Value) (xs ys : Lexemes) → shown (at (n.Lit v) xs ys) ≡ value_printed names v
   shown_lit v xs ys = fold_lit Printed (Printed × Printed) Printed (of_node (name_labels names)) of_branch of_expr v (span xs ys)
 
   again_truth : (b : Bool) (zs us : Lexemes) → Again total names (at (n.Lit (value.Bool b)) zs us)
@@ -375,12 +375,12 @@ module _ (total : ℕ) (names : List Text) where
   again_names : {ps qs : Lexemes} (path : List ℕ) → IsDistinctTexts names → ReadsPath ps path qs → list_all (is_named names) path ≡ true
       → (zs us : Lexemes) → Again total names (at (n.Path path) zs us)
   again_names path distinct given named zs us =
-      let shown_path : shown (at (n.Path path) zs us) ≡ record { level = 12; is_signed = false; bytes = path_text (name_labels names) [] path } =
+      let shown_path : shown (at (n.Path path) zs us) ≡ record { level = 12; is_signed = false; bytes = path_text names [] path } =
       fold_path Printed (Printed × Printed) Printed (of_node (name_labels names)) of_branch of_expr path (span zs us) in
-      again_primary total names (path_text (name_labels names) [] path) (at (n.Path path) zs us) shown_path (record {
+      again_primary total names (path_text names [] path) (at (n.Path path) zs us) shown_path (record {
         by = λ rest ys c h.
             let q = again_path total names distinct given named rest ys c h in
-            let first : ℕ = slice_index (path_text (name_labels names) [] path ++ rest) 0 in
+            let first : ℕ = slice_index (path_text names [] path ++ rest) 0 in
             record {
               whole = record {
                 xs = q.xs;

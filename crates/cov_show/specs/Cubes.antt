@@ -1,12 +1,12 @@
 -- Printed cubes. A cube has a class of values for each variable, given by their places.
-use Rattle.std.specs.Prelude.{ℕ, ◌+◌, Bool, true, false, not, ◌&&◌, nat_le, nat_lt, if◌then◌else◌, List, [], ◌∷◌, ◌++◌, length, map, flat_map, zip, slice_index_or, codes}
+use Rattle.std.specs.Prelude.{ℕ, if◌then◌else◌, List, [], ◌∷◌, ◌++◌, length, map, flat_map, zip, slice_index_or, codes}
 use Rattle.std.specs.List.{join_with_byte, range_with_len}
 use Rattle.std.specs.Str.{bytes_eq}
 use Rattle.cov_syntax.specs.declared.tree.Value.{Value}
 use Rattle.cov_syntax.specs.Tokens.{Text}
 use Rattle.cov_model.specs.declared.model.Var.{Var}
 use Rattle.cov_model.specs.declared.model.Model.{Model}
-use Rattle.cov_show.specs.Printing.{name_labels, value_printed}
+use Rattle.cov_show.specs.Printing.{value_printed}
 pub use Rattle.cov_classes.specs.Partition.{are_ascending, is_class, is_cube}
 
 -- ---- cubes of a model
@@ -24,7 +24,7 @@ pub record Shown : Type 0 where
 
 -- a value is TRUE, FALSE, a decimal integer, or the symbol
 abbrev pub value_text : List Text → Value → Text
-value_text names v = (value_printed (name_labels names) v).bytes
+value_text names v = (value_printed names v).bytes
 
 -- a variable, with the names of the model
 abbrev pub shown : List Text → Var → Shown

@@ -1,3 +1,4 @@
 pub mod Cubes
+pub mod Formulas
 pub mod Printing
 pub mod ReadAgain

@@ -1,5 +1,5 @@
 -- How expressions are printed: with the fewest parentheses, and one blank where the grammar's levels leave a choice.
-use Rattle.std.specs.Prelude.{ℕ, ◌+◌, ℤ, Bool, true, false, ◌||◌, nat_lt, if◌then◌else◌, List, [], ◌∷◌, ◌++◌, slice_index_or, codes}
+use Rattle.std.specs.Prelude.{ℕ, ◌+◌, ℤ, Bool, true, false, ◌||◌, nat_lt, if◌then◌else◌, List, [], ◌∷◌, ◌++◌, map, slice_index_or, codes}
 use Rattle.std.specs.Fmt.{signed_decimal}
 use Rattle.cov_syntax.specs.declared.tree.Branch.{Branch}
 use Rattle.cov_syntax.specs.declared.tree.Expr.{Expr}
@@ -13,16 +13,35 @@ use Rattle.cov_syntax.specs.declared.tree.Op2.TheVariants as op2
 use Rattle.cov_syntax.specs.declared.tree.Value.{Value}
 use Rattle.cov_syntax.specs.declared.tree.Value.TheVariants as value
 use Rattle.cov_syntax.specs.Tokens.{Text}
+use Rattle.cov_model.specs.declared.model.Var.{Var}
+use Rattle.cov_model.specs.declared.model.Define.{Define}
+use Rattle.cov_model.specs.declared.model.Model.{Model}
+
+-- the name with this number, or nothing where there is none
+abbrev pub name_text : List Text → ℕ → Text
+name_text names i = slice_index_or names i []
 
 -- The texts of what an expression cites by a number: names, variables and DEFINEs.
 pub record Labels : Type 0 where
-  pub name : ℕ → Text
-  pub variable : ℕ → Text
-  pub define : ℕ → Text
+  pub names : List Text
+  pub variables : List Text
+  pub defines : List Text
+
+-- those where these variables and DEFINEs stand, which have names
+abbrev pub labels_with : List Text → List Var → List Define → Labels
+labels_with names vars defines = record {
+  names = names;
+  variables = map (λ (x : Var). name_text names x.name) vars;
+  defines = map (λ (d : Define). name_text names d.name) defines;
+}
 
 -- those of a tree that stands before flattening, where no variable and no DEFINE is cited
 abbrev pub name_labels : List Text → Labels
-name_labels names = record { name = λ i. slice_index_or names i []; variable = λ _. []; define = λ _. [] }
+name_labels names = labels_with names [] []
+
+-- those of a model
+abbrev pub model_labels : Model → Labels
+model_labels m = labels_with m.names m.vars m.defines
 
 -- ---- levels and words
 
@@ -145,15 +164,15 @@ negated p = grouped (is_grouped_behind_minus p) p.bytes
 abbrev pub primary : Text → Printed
 primary bytes = record { level = 12; is_signed = false; bytes = bytes }
 
-abbrev pub value_printed : Labels → Value → Printed
-value_printed labels (value.Bool b) = primary (truth_text b)
-value_printed labels (value.Int i) = record { level = 12; is_signed = true; bytes = signed_decimal i }
-value_printed labels (value.Sym i) = primary (labels.name i)
+abbrev pub value_printed : List Text → Value → Printed
+value_printed names (value.Bool b) = primary (truth_text b)
+value_printed names (value.Int i) = record { level = 12; is_signed = true; bytes = signed_decimal i }
+value_printed names (value.Sym i) = primary (name_text names i)
 
 -- the names of a path, the first one after a mark, and each other one after a dot
-abbrev pub path_text : Labels → Text → List ℕ → Text
-path_text labels mark [] = []
-path_text labels mark (i ∷ names) = mark ++ labels.name i ++ path_text labels (codes ".") names
+abbrev pub path_text : List Text → Text → List ℕ → Text
+path_text names mark [] = []
+path_text names mark (i ∷ path) = mark ++ name_text names i ++ path_text names (codes ".") path
 
 abbrev pub prefix_printed : Op1 → Printed → Printed
 prefix_printed op1.Neg e = record { level = 12; is_signed = true; bytes = before op1.Neg ++ negated e }
@@ -198,10 +217,10 @@ abbrev pub case_text : List (Printed × Printed) → Text
 case_text bs = codes "case " ++ branches_text bs ++ codes "esac"
 
 abbrev pub of_node : Labels → Node-F Printed (Printed × Printed) Printed → Printed
-of_node labels (Node-F.Lit v) = value_printed labels v
-of_node labels (Node-F.Path names) = primary (path_text labels [] names)
-of_node labels (Node-F.Var i) = primary (labels.variable i)
-of_node labels (Node-F.Def i) = primary (labels.define i)
+of_node labels (Node-F.Lit v) = value_printed labels.names v
+of_node labels (Node-F.Path path) = primary (path_text labels.names [] path)
+of_node labels (Node-F.Var i) = primary (name_text labels.variables i)
+of_node labels (Node-F.Def i) = primary (name_text labels.defines i)
 of_node labels (Node-F.One op e) = prefix_printed op e
 of_node labels (Node-F.Two op a b) = infix_printed op a b
 of_node labels (Node-F.Range low high) = record { level = 12; is_signed = true; bytes = range_text low high }

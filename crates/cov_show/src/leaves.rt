@@ -1,14 +1,14 @@
-ghost use Rattle.std.specs.Prelude.{◌≡◌, [], ◌++◌, OnOk, nat_lt, slice_index_or};
+ghost use Rattle.std.specs.Prelude.{◌≡◌, [], ◌++◌, OnOk, nat_lt};
 ghost use Rattle.std.specs.Fmt.{signed_decimal};
 ghost use Rattle.cov_show.specs.Printing as spec;
-ghost use Rattle.cov_show.specs.Printing.{Labels, name_labels, printed};
+ghost use Rattle.cov_show.specs.Printing.{Labels, name_text, printed};
 
 use crate::words::{TIGHTEST, infix_level, prefix_level};
 use cov_syntax::{Expr, Names, NoMemory, Node, Op1, Text, Value};
 use itoa::Buffer;
 
 /// The level of an expression.
-fn level(e: &Expr) -> u32
+pub fn level(e: &Expr) -> u32
     ensures { (labels : Labels) → result ≡ (printed labels e.now).level }
 {
     match &e.node {
@@ -42,15 +42,15 @@ pub fn is_grouped_behind_minus(e: &Expr) -> bool
     is_signed(e) || level(e) < TIGHTEST
 }
 
-fn name_text(names: &Names, i: u32) -> &[u8]
-    ensures { result.now ≡ slice_index_or names.now i [] }
+/// The name with this number, or nothing where there is none.
+pub fn name_text(names: &Names, i: u32) -> &[u8]
+    ensures { result.now ≡ name_text names.now i }
 {
     if i < names.len() { names.text(i) } else { b"" }
 }
 
-/// The name with this number, or nothing where there is none.
 pub fn show_name(names: &Names, i: u32, into: &mut Text) -> Result<(), NoMemory>
-    ensures { OnOk result (into.new ≡ into.old ++ slice_index_or names.now i []) }
+    ensures { OnOk result (into.new ≡ into.old ++ name_text names.now i) }
 {
     into.extend_from_slice(name_text(names, i))
 }
@@ -62,7 +62,7 @@ fn show_integer(i: i32, into: &mut Text) -> Result<(), NoMemory>
 }
 
 pub fn show_value(names: &Names, value: Value, into: &mut Text) -> Result<(), NoMemory>
-    ensures { OnOk result (into.new ≡ into.old ++ (spec.value_printed (name_labels names.now) value).bytes) }
+    ensures { OnOk result (into.new ≡ into.old ++ (spec.value_printed names.now value).bytes) }
 {
     match value {
         Value::Bool(true) => into.extend_from_slice(b"TRUE"),
@@ -82,7 +82,7 @@ pub fn show_range(low: i32, high: i32, into: &mut Text) -> Result<(), NoMemory>
 
 /// The names with a dot between each two.
 pub fn show_path(names: &Names, path: &[u32], into: &mut Text) -> Result<(), NoMemory>
-    ensures { OnOk result (into.new ≡ into.old ++ spec.path_text (name_labels names.now) [] path.now) }
+    ensures { OnOk result (into.new ≡ into.old ++ spec.path_text names.now [] path.now) }
 {
     let mut mark: &[u8] = b"";
     for i in path {

@@ -1,7 +1,9 @@
-//! The printed texts of expressions and of cubes.
+//! The printed texts of expressions, of formulas and of cubes.
 #![tactic(auto)]
 
 mod cube;
+mod formula;
+mod labels;
 mod laws;
 mod leaves;
 #[cfg(test)]
@@ -10,5 +12,6 @@ mod tree;
 mod words;
 
 pub use cube::show_cube;
+pub use formula::show_formula;
 pub use laws::read_again;
 pub use tree::show_tree;

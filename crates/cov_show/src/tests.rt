@@ -1,5 +1,8 @@
 //! Trees, and the texts that they are printed as.
 
+mod formulas;
+
+use crate::labels::Labels;
 use crate::show_tree;
 use crate::tree::show;
 use cov_syntax::{Branch, Expr, Names, NoMemory, Node, Op1, Op2, Seq, Span, Value};
@@ -12,6 +15,8 @@ use std::test::Fail;
 #[derive(Clone, Copy)]
 enum Part {
     Path(&'static [u32]),
+    Var(u32),
+    Def(u32),
     Truth(bool),
     Int(i32),
     Range(i32, i32),
@@ -85,6 +90,8 @@ impl Builder {
                 path.extend_from_slice(names)?;
                 self.put(Node::Path(path))
             }
+            Part::Var(i) => self.put(Node::Var(i)),
+            Part::Def(i) => self.put(Node::Def(i)),
             Truth(b) => self.put(Node::Lit(Value::Bool(b))),
             Int(i) => self.put(Node::Lit(Value::Int(i))),
             Range(low, high) => self.put(Node::Range(low, high)),
@@ -121,7 +128,7 @@ fn prints_as(alloc: Global, names: &Names, parts: &[Part], want: &str) -> Result
     match tree(alloc, parts)? {
         Some(e) => {
             let mut text = Seq::new(alloc);
-            show(names, &e, 1, &mut text)?;
+            show(&Labels::of_names(names), &e, 1, &mut text)?;
             Ok(text.as_slice() == want.as_bytes())
         }
         None => Ok(false),

@@ -1,8 +1,9 @@
 ghost use Rattle.std.specs.Prelude.{◌≡◌, [], ◌++◌, map, IsTrue, OnOk, OnErr};
 ghost use Rattle.cov_show.specs.Printing as spec;
-ghost use Rattle.cov_show.specs.Printing.{name_labels, printed, node_printed, branch_printed};
+ghost use Rattle.cov_show.specs.Printing.{printed, node_printed, branch_printed};
 ghost use Rattle.cov_show.specs.ReadAgain.{IsTree, all_named, IsReadAs};
 
+use crate::labels::Labels;
 use crate::leaves::{is_grouped_behind_minus, is_looser, show_path, show_range, show_value};
 use crate::words;
 use cov_syntax::{Branch, Expr, Names, NoMemory, Node, Op1, Op2, Seq, Text};
@@ -17,124 +18,130 @@ pub fn show_tree(alloc: Global, names: &Names, e: &Expr, into: &mut Text) -> Res
 {
     // The text is put together first, so that a want of memory leaves no part of it.
     let mut text = Seq::new(alloc);
-    show(names, e, 1, &mut text)?;
+    show(&Labels::of_names(names), e, 1, &mut text)?;
     into.extend_from_slice(text.as_slice())
 }
 
 /// An expression where a level is asked.
 #[cycle(show)]
-pub fn show(names: &Names, e: &Expr, asked: u32, into: &mut Text) -> Result<(), NoMemory>
-    ensures { OnOk result (into.new ≡ into.old ++ spec.placed asked (printed (name_labels names.now) e.now)) }
+pub fn show(labels: &Labels<'_>, e: &Expr, asked: u32, into: &mut Text) -> Result<(), NoMemory>
+    ensures { OnOk result (into.new ≡ into.old ++ spec.placed asked (printed labels.now e.now)) }
 {
-    show_grouped(names, e, is_looser(e, asked), into)
+    show_grouped(labels, e, is_looser(e, asked), into)
 }
 
 /// The operand of a unary minus.
 #[cycle(show)]
-fn show_negated(names: &Names, e: &Expr, into: &mut Text) -> Result<(), NoMemory>
-    ensures { OnOk result (into.new ≡ into.old ++ spec.negated (printed (name_labels names.now) e.now)) }
+fn show_negated(labels: &Labels<'_>, e: &Expr, into: &mut Text) -> Result<(), NoMemory>
+    ensures { OnOk result (into.new ≡ into.old ++ spec.negated (printed labels.now e.now)) }
 {
-    show_grouped(names, e, is_grouped_behind_minus(e), into)
+    show_grouped(labels, e, is_grouped_behind_minus(e), into)
 }
 
 #[cycle(show)]
-fn show_grouped(names: &Names, e: &Expr, in_parens: bool, into: &mut Text) -> Result<(), NoMemory>
-    ensures { OnOk result (into.new ≡ into.old ++ spec.grouped in_parens (printed (name_labels names.now) e.now).bytes) }
+fn show_grouped(
+    labels: &Labels<'_>,
+    e: &Expr,
+    in_parens: bool,
+    into: &mut Text,
+) -> Result<(), NoMemory>
+    ensures { OnOk result (into.new ≡ into.old ++ spec.grouped in_parens (printed labels.now e.now).bytes) }
 {
     if in_parens {
         into.push(b'(')?;
-        show_node(names, &e.node, into)?;
+        show_node(labels, &e.node, into)?;
         into.push(b')')
     } else {
-        show_node(names, &e.node, into)
+        show_node(labels, &e.node, into)
     }
 }
 
+/// An expression without the parentheses that its place may ask.
 #[cycle(show)]
-fn show_node(names: &Names, node: &Node, into: &mut Text) -> Result<(), NoMemory>
-    ensures { OnOk result (into.new ≡ into.old ++ (node_printed (name_labels names.now) node.now).bytes) }
+pub fn show_node(labels: &Labels<'_>, node: &Node, into: &mut Text) -> Result<(), NoMemory>
+    ensures { OnOk result (into.new ≡ into.old ++ (node_printed labels.now node.now).bytes) }
 {
     match node {
-        Node::Lit(value) => show_value(names, *value, into),
-        Node::Path(path) => show_path(names, path.as_slice(), into),
-        // Neither stands in a tree before flattening.
-        Node::Var(_) | Node::Def(_) => Ok(()),
-        Node::One(op, e) => show_prefix(names, *op, e.get(), into),
+        Node::Lit(value) => show_value(labels.names(), *value, into),
+        Node::Path(path) => show_path(labels.names(), path.as_slice(), into),
+        Node::Var(i) => into.extend_from_slice(labels.variable(*i)),
+        Node::Def(i) => into.extend_from_slice(labels.define(*i)),
+        Node::One(op, e) => show_prefix(labels, *op, e.get(), into),
         Node::Two(op, a, b) => {
-            show_left(names, *op, a.get(), into)?;
-            show_right(names, *op, b.get(), into)
+            show_left(labels, *op, a.get(), into)?;
+            show_right(labels, *op, b.get(), into)
         }
         Node::Range(low, high) => show_range(*low, *high, into),
-        Node::Set(elements) => show_set(names, elements, into),
-        Node::Case(branches) => show_case(names, branches, into),
+        Node::Set(elements) => show_set(labels, elements, into),
+        Node::Case(branches) => show_case(labels, branches, into),
     }
 }
 
 #[cycle(show)]
-fn show_prefix(names: &Names, op: Op1, e: &Expr, into: &mut Text) -> Result<(), NoMemory>
-    ensures { OnOk result (into.new ≡ into.old ++ (spec.prefix_printed op (printed (name_labels names.now) e.now)).bytes) }
+fn show_prefix(labels: &Labels<'_>, op: Op1, e: &Expr, into: &mut Text) -> Result<(), NoMemory>
+    ensures { OnOk result (into.new ≡ into.old ++ (spec.prefix_printed op (printed labels.now e.now)).bytes) }
 {
     into.extend_from_slice(words::before(op))?;
     match op {
-        Op1::Neg => show_negated(names, e, into),
+        Op1::Neg => show_negated(labels, e, into),
         Op1::Next => {
-            show(names, e, 1, into)?;
+            show(labels, e, 1, into)?;
             into.push(b')')
         }
-        _ => show(names, e, 5, into),
+        _ => show(labels, e, 5, into),
     }
 }
 
 /// The left operand, with what stands before it and behind it.
 #[cycle(show)]
-fn show_left(names: &Names, op: Op2, a: &Expr, into: &mut Text) -> Result<(), NoMemory>
-    ensures { OnOk result (into.new ≡ into.old ++ spec.left_text op (printed (name_labels names.now) a.now)) }
+fn show_left(labels: &Labels<'_>, op: Op2, a: &Expr, into: &mut Text) -> Result<(), NoMemory>
+    ensures { OnOk result (into.new ≡ into.old ++ spec.left_text op (printed labels.now a.now)) }
 {
     into.extend_from_slice(words::before_left(op))?;
-    show(names, a, words::left_asks(op), into)?;
+    show(labels, a, words::left_asks(op), into)?;
     into.extend_from_slice(words::between(op))
 }
 
 /// The right operand, and what stands behind it.
 #[cycle(show)]
-fn show_right(names: &Names, op: Op2, b: &Expr, into: &mut Text) -> Result<(), NoMemory>
-    ensures { OnOk result (into.new ≡ into.old ++ spec.right_text op (printed (name_labels names.now) b.now)) }
+fn show_right(labels: &Labels<'_>, op: Op2, b: &Expr, into: &mut Text) -> Result<(), NoMemory>
+    ensures { OnOk result (into.new ≡ into.old ++ spec.right_text op (printed labels.now b.now)) }
 {
-    show(names, b, words::right_asks(op), into)?;
+    show(labels, b, words::right_asks(op), into)?;
     into.extend_from_slice(words::behind_right(op))
 }
 
 #[cycle(show)]
-fn show_set(names: &Names, elements: &Seq<Expr>, into: &mut Text) -> Result<(), NoMemory>
-    ensures { OnOk result (into.new ≡ into.old ++ spec.set_text (map (printed (name_labels names.now)) elements.now)) }
+fn show_set(labels: &Labels<'_>, elements: &Seq<Expr>, into: &mut Text) -> Result<(), NoMemory>
+    ensures { OnOk result (into.new ≡ into.old ++ spec.set_text (map (printed labels.now) elements.now)) }
 {
     into.push(b'{')?;
     let mut mark: &[u8] = b"";
     for e in elements.as_slice() {
         into.extend_from_slice(mark)?;
-        show(names, e, 1, into)?;
+        show(labels, e, 1, into)?;
         mark = b", ";
     }
     into.push(b'}')
 }
 
 #[cycle(show)]
-fn show_case(names: &Names, branches: &Seq<Branch>, into: &mut Text) -> Result<(), NoMemory>
-    ensures { OnOk result (into.new ≡ into.old ++ spec.case_text (map (branch_printed (name_labels names.now)) branches.now)) }
+fn show_case(labels: &Labels<'_>, branches: &Seq<Branch>, into: &mut Text) -> Result<(), NoMemory>
+    ensures { OnOk result (into.new ≡ into.old ++ spec.case_text (map (branch_printed labels.now) branches.now)) }
 {
     into.extend_from_slice(b"case ")?;
     for b in branches.as_slice() {
-        show_branch(names, b, into)?;
+        show_branch(labels, b, into)?;
     }
     into.extend_from_slice(b"esac")
 }
 
 #[cycle(show)]
-fn show_branch(names: &Names, b: &Branch, into: &mut Text) -> Result<(), NoMemory>
-    ensures { OnOk result (into.new ≡ into.old ++ spec.branch_text (branch_printed (name_labels names.now) b.now)) }
+fn show_branch(labels: &Labels<'_>, b: &Branch, into: &mut Text) -> Result<(), NoMemory>
+    ensures { OnOk result (into.new ≡ into.old ++ spec.branch_text (branch_printed labels.now b.now)) }
 {
-    show(names, &b.guard, 1, into)?;
+    show(labels, &b.guard, 1, into)?;
     into.extend_from_slice(b" : ")?;
-    show(names, &b.body, 1, into)?;
+    show(labels, &b.body, 1, into)?;
     into.extend_from_slice(b"; ")
 }

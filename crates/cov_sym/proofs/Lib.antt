@@ -1,7 +1,10 @@
 pub mod Deep
 pub mod Sets
+pub mod Exchanging
 pub mod InARow
 pub mod Ruled
+pub mod Differences
+pub mod Inverted
 pub mod Cited
 pub mod Fair
 pub mod Stepping

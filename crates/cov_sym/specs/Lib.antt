@@ -1,3 +1,4 @@
 pub mod Systems
 pub mod Rules
 pub mod Standing
+pub mod Pairs

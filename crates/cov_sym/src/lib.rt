@@ -4,6 +4,7 @@
 
 mod atoms;
 mod build;
+mod differing;
 mod fairness;
 mod lists;
 mod meeting;

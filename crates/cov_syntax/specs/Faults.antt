@@ -5,7 +5,7 @@ use Rattle.cov_syntax.specs.declared.fault.FaultKind.{FaultKind}
 use Rattle.cov_syntax.specs.declared.fault.ModelFault.{ModelFault}
 use Rattle.cov_syntax.specs.declared.fault.Refused.{Refused}
 use Rattle.cov_syntax.specs.declared.fault.Refused.TheVariants.{Fault, Memory}
-use Rattle.cov_syntax.specs.declared.fault.FaultKind.TheVariants.{BadByte, Syntax, NoMain, UnknownModule, RecursiveModule, WrongArguments, DuplicateName, UnknownName, NameClash, BadType, Kind, SetPlace, CaseNotClosed, DivisorMayBeZero, RangeTooWide, DoubleAssign, Circular, NextPlace, TemporalPlace, LeftOut, TooManyBits, TooDeep, TooLarge, FileTooLong, NotBuilt}
+use Rattle.cov_syntax.specs.declared.fault.FaultKind.TheVariants.{BadByte, Syntax, NoMain, UnknownModule, RecursiveModule, WrongArguments, DuplicateName, UnknownName, NameClash, BadType, Kind, SetPlace, CaseNotClosed, DivisorMayBeZero, RangeTooWide, DoubleAssign, Circular, NextPlace, TemporalPlace, LeftOut, TooManyBits, TooDeep, TooLarge, FileTooLong}
 
 -- the number of a fault
 abbrev pub code_of : FaultKind → ℕ
@@ -33,11 +33,10 @@ code_of TooManyBits = 21
 code_of TooDeep = 22
 code_of TooLarge = 23
 code_of FileTooLong = 24
-code_of NotBuilt = 25
 
 -- the faults in the order of their numbers, from 1
 abbrev pub fault_kinds : List FaultKind
-fault_kinds = BadByte ∷ Syntax ∷ NoMain ∷ UnknownModule ∷ RecursiveModule ∷ WrongArguments ∷ DuplicateName ∷ UnknownName ∷ NameClash ∷ BadType ∷ Kind ∷ SetPlace ∷ CaseNotClosed ∷ DivisorMayBeZero ∷ RangeTooWide ∷ DoubleAssign ∷ Circular ∷ NextPlace ∷ TemporalPlace ∷ LeftOut ∷ TooManyBits ∷ TooDeep ∷ TooLarge ∷ FileTooLong ∷ NotBuilt ∷ []
+fault_kinds = BadByte ∷ Syntax ∷ NoMain ∷ UnknownModule ∷ RecursiveModule ∷ WrongArguments ∷ DuplicateName ∷ UnknownName ∷ NameClash ∷ BadType ∷ Kind ∷ SetPlace ∷ CaseNotClosed ∷ DivisorMayBeZero ∷ RangeTooWide ∷ DoubleAssign ∷ Circular ∷ NextPlace ∷ TemporalPlace ∷ LeftOut ∷ TooManyBits ∷ TooDeep ∷ TooLarge ∷ FileTooLong ∷ []
 
 -- the fault of a number, if there is one
 abbrev pub kind_numbered : ℕ → Option FaultKind
@@ -70,7 +69,6 @@ kind_name TooManyBits = codes "TooManyBits"
 kind_name TooDeep = codes "TooDeep"
 kind_name TooLarge = codes "TooLarge"
 kind_name FileTooLong = codes "FileTooLong"
-kind_name NotBuilt = codes "NotBuilt"
 
 -- the name of a number, and nothing where it is no fault's
 abbrev pub name_of : ℕ → List ℕ

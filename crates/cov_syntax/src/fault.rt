@@ -32,12 +32,10 @@ pub enum FaultKind {
     TooDeep,
     TooLarge,
     FileTooLong,
-    /// The model is right, and the command does not serve it yet.
-    NotBuilt,
 }
 
 /// The faults in the order of their numbers.
-const KINDS: [FaultKind; 25] = [
+const KINDS: [FaultKind; 24] = [
     FaultKind::BadByte,
     FaultKind::Syntax,
     FaultKind::NoMain,
@@ -62,7 +60,6 @@ const KINDS: [FaultKind; 25] = [
     FaultKind::TooDeep,
     FaultKind::TooLarge,
     FaultKind::FileTooLong,
-    FaultKind::NotBuilt,
 ];
 
 impl FaultKind {
@@ -95,7 +92,6 @@ impl FaultKind {
             FaultKind::TooDeep => 22,
             FaultKind::TooLarge => 23,
             FaultKind::FileTooLong => 24,
-            FaultKind::NotBuilt => 25,
         }
     }
 
@@ -129,7 +125,6 @@ impl FaultKind {
             FaultKind::TooDeep => "TooDeep",
             FaultKind::TooLarge => "TooLarge",
             FaultKind::FileTooLong => "FileTooLong",
-            FaultKind::NotBuilt => "NotBuilt",
         }
     }
 

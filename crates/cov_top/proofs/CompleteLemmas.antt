@@ -1,16 +1,18 @@
 -- Lemmas on runs that have enough of all but memory.
-use Rattle.std.proofs.Common.{◌≡◌, ℕ, Bool, false, List, Option, Some, None, ◌⊎◌, inl, inr, refl, subst}
+use Rattle.std.proofs.Common.{◌≡◌, ℕ, Option, Some, None, ◌⊎◌, inl, inr, refl, ap}
 use Rattle.cov_io.specs.Outside.{Table, Rose}
 use Rattle.cov_space.specs.Meters.{MeterOf}
 use Rattle.cov_words.specs.declared.job.Job.{Job}
 use Rattle.cov_top.specs.Nodes.{IsAmpleFile}
 use Rattle.cov_top.specs.Refusal.{IsCause}
-use Rattle.cov_top.specs.Run.{IsInputFault, IsJobReport, IsMissing}
+use Rattle.cov_jobs.specs.declared.fault.AskFault.{AskFault}
+use Rattle.cov_top.specs.Run.{IsInputFault, IsMissing, IsUnknownFile}
 use Rattle.cov_top.specs.declared.status.InputFault.{InputFault}
 use Rattle.cov_top.specs.declared.status.InputFault.TheVariants.{Model}
 use Rattle.cov_top.specs.declared.status.Status.{Status}
-use Rattle.cov_top.specs.declared.status.Status.TheVariants.{Done, Fails, Words, Input, Read, Write, Nodes, Memory}
-use Rattle.cov_top.proofs.NodesLemmas.{ample-accepted, ample-job, ample-passes, ample-short, ample-there, missing-short}
+use Rattle.cov_top.specs.declared.status.Status.TheVariants.{Done, Fails, Words, Input, Read, Write, Nodes, Memory, Asked}
+use Rattle.cov_top.proofs.NodesLemmas.{ample-accepted, ample-job, ample-short, ample-there, missing-short}
+use Rattle.cov_top.proofs.AskedLemmas.{ample-unasked, missing-asked, unknown-fault, unknown-short, unknown-there, unknown-job, one-question}
 use Rattle.cov_top.proofs.RunLemmas.{accepted-fault}
 
 missing-job : (told : Option Table) (j : Option Job) → IsMissing told j → j ≡ None → ⊥
@@ -24,7 +26,7 @@ missing-fault (Some files) (Some j) (Model f) h r = let is = r.1 in cc
 
 -- only want of memory refuses a file for which the nodes are enough, where no read failed
 pub refusal-complete : (told : Option Table) (before now : ℕ) (j : Option Job) (old new : MeterOf) (s : Status) → IsCause told before now j old new s
-    → IsAmpleFile told j → (Rose before now → ⊥) → (s ≡ Done) ⊎ (s ≡ Memory)
+    → IsAmpleFile told j → (Rose before now → ⊥) → (s ≡ Done) ⊎ ((s ≡ Fails) ⊎ (s ≡ Memory))
 refusal-complete told before now j old new Done c a calm = inl refl
 refusal-complete told before now j old new Fails c a calm = absurd c
 refusal-complete told before now j old new Words c a calm = absurd (ample-job told j a c)
@@ -32,7 +34,8 @@ refusal-complete told before now j old new (Input f) c a calm = absurd (accepted
 refusal-complete told before now j old new Read c a calm = absurd (elim c.1 [ inl rose ↦ calm rose | inr gone ↦ ample-there told j a gone ])
 refusal-complete told before now j old new Write c a calm = absurd c
 refusal-complete told before now j old new (Nodes full) c a calm = absurd (ample-short told j old new full a c)
-refusal-complete told before now j old new Memory c a calm = inr refl
+refusal-complete told before now j old new Memory c a calm = inr (inr refl)
+refusal-complete told before now j old new (Asked q) c a calm = absurd (ample-unasked told j q a c)
 
 -- a file that is not there is refused as one that was not read, or for want of memory
 pub refusal-missing : (told : Option Table) (before now : ℕ) (j : Option Job) (old new : MeterOf) (s : Status) → IsCause told before now j old new s
@@ -45,12 +48,24 @@ refusal-missing told before now j old new Read c h = inl refl
 refusal-missing told before now j old new Write c h = absurd c
 refusal-missing told before now j old new (Nodes full) c h = absurd (missing-short told j old new full h c)
 refusal-missing told before now j old new Memory c h = inr refl
+refusal-missing told before now j old new (Asked q) c h = absurd (missing-asked told j q h c)
 
--- the report on such a file is put whole, where no write failed
-pub report-complete : (told : Option Table) (j : Option Job) (passes : Bool) (text : List ℕ) (before now : ℕ) (s : Status) → IsJobReport told j passes text
-    → (s ≡ Done) ⊎ ((s ≡ Fails) ⊎ (s ≡ Write)) → (s ≡ Fails → passes ≡ false) → (s ≡ Write → Rose before now)
-    → IsAmpleFile told j → (Rose before now → ⊥) → (s ≡ Done) ⊎ (s ≡ Memory)
-report-complete told j passes text before now s r (inl done) fails write a calm = inl done
-report-complete told j passes text before now s r (inr (inl failed)) fails write a calm =
-    absurd (ample-passes told j text a (subst (λ b. IsJobReport told j b text) (fails failed) r))
-report-complete told j passes text before now s r (inr (inr cut)) fails write a calm = absurd (calm (write cut))
+-- a report is put whole, where no write failed
+pub report-complete : (before now : ℕ) (s : Status) → (s ≡ Done) ⊎ ((s ≡ Fails) ⊎ (s ≡ Write)) → (s ≡ Write → Rose before now) → (Rose before now → ⊥)
+    → (s ≡ Done) ⊎ ((s ≡ Fails) ⊎ (s ≡ Memory))
+report-complete before now s (inl done) write calm = inl done
+report-complete before now s (inr (inl fails)) write calm = inr (inl fails)
+report-complete before now s (inr (inr cut)) write calm = absurd (calm (write cut))
+
+-- only want of memory, or a failed read, goes before the question about a signal that the model does not have
+pub refusal-unknown : (told : Option Table) (before now : ℕ) (j : Option Job) (old new : MeterOf) (a : AskFault) (s : Status) → IsCause told before now j old new s
+    → IsUnknownFile told j a → (Rose before now → ⊥) → (s ≡ Asked a) ⊎ (s ≡ Memory)
+refusal-unknown told before now j old new a Done c u calm = absurd c
+refusal-unknown told before now j old new a Fails c u calm = absurd c
+refusal-unknown told before now j old new a Words c u calm = absurd (unknown-job told j a u c)
+refusal-unknown told before now j old new a (Input f) c u calm = absurd (unknown-fault told j a f u c)
+refusal-unknown told before now j old new a Read c u calm = absurd (elim c.1 [ inl rose ↦ calm rose | inr gone ↦ unknown-there told j a u gone ])
+refusal-unknown told before now j old new a Write c u calm = absurd c
+refusal-unknown told before now j old new a (Nodes full) c u calm = absurd (unknown-short told j a old new full u c)
+refusal-unknown told before now j old new a Memory c u calm = inr refl
+refusal-unknown told before now j old new a (Asked b) c u calm = inl (ap Asked (one-question told j a b u c))

@@ -1,16 +1,13 @@
 -- Lemmas on runs that are out of nodes, and on those that can't be.
-use Rattle.std.proofs.Common.{◌≡◌, ℕ, ◌≤◌, ◌<◌, false, List, Option, Some, None, IsTrue, refl, subst, arith}
+use Rattle.std.proofs.Common.{◌≡◌, ℕ, ◌≤◌, ◌<◌, List, Option, Some, None, refl, subst, arith}
 use Rattle.cov_io.specs.Outside.{Table}
-use Rattle.cov_model.specs.declared.model.Model as models
 use Rattle.cov_space.specs.declared.fault.NodesFull.{NodesFull}
 use Rattle.cov_space.specs.Meters.{MeterOf}
 use Rattle.cov_types.specs.Roots.{enough}
 use Rattle.cov_words.specs.Words.{opts_of}
 use Rattle.cov_words.specs.declared.job.Job.{Job}
-use Rattle.cov_words.specs.declared.job.Job.TheVariants as job
-use Rattle.cov_top.specs.Nodes.{IsAmple, IsAmpleFile, IsJobShort, IsTextShort, KeepsMeter, lists_states}
-use Rattle.cov_top.specs.Run.{IsAcceptedFile, IsJobReport, IsMissing, IsReportOn}
-use Rattle.cov_top.specs.Serving.{serves}
+use Rattle.cov_top.specs.Nodes.{IsAmple, IsAmpleFile, IsJobShort, IsTextShort, KeepsMeter}
+use Rattle.cov_top.specs.Run.{IsAcceptedFile, IsMissing}
 use Rattle.cov_top.specs.declared.status.Status.{Status}
 use Rattle.cov_top.specs.declared.status.Status.TheVariants as status
 
@@ -47,18 +44,13 @@ keeps-meter (status.Input f) old new k other = k
 keeps-meter status.Read old new k other = k
 keeps-meter status.Write old new k other = k
 keeps-meter status.Memory old new k other = k
-
--- a job that lists states serves every model, and what it judges passes
-lists-serves : (j : Job) → IsTrue (lists_states j) → (p : _) → IsTrue (serves j p)
-lists-serves (job.Init name opts) h p = refl
-lists-serves (job.Reach name opts) h p = refl
-lists-serves (job.Check name opts) h p = cc
+keeps-meter (status.Asked a) old new k other = k
 
 -- a file for which the nodes are enough is accepted
 pub ample-accepted : (told : Option Table) (j : Option Job) → IsAmpleFile told j → IsAcceptedFile told j
 ample-accepted told None a = a
 ample-accepted None (Some j) a = a
-ample-accepted (Some files) (Some j) a = (a.0, a.1, record { program = a.2.program; model = a.2.model; accepted = a.2.accepted; served = lists-serves j a.2.lists a.2.program })
+ample-accepted (Some files) (Some j) a = (a.0, a.1, record { program = a.2.program; model = a.2.model; accepted = a.2.accepted })
 
 -- and it is there
 pub ample-there : (told : Option Table) (j : Option Job) → IsAmpleFile told j → IsMissing told j → ⊥
@@ -70,14 +62,3 @@ ample-there (Some files) (Some j) a h = let is = a.1 in cc
 pub ample-job : (told : Option Table) (j : Option Job) → IsAmpleFile told j → j ≡ None → ⊥
 ample-job told None a e = a
 ample-job told (Some j) a e = cc
-
-reports-pass : (j : Job) (p : _) (m : models.Model) (text : List ℕ) → IsTrue (lists_states j) → IsReportOn j p m false text → ⊥
-reports-pass (job.Init name opts) p m text h r = let e = r.0 in cc
-reports-pass (job.Reach name opts) p m text h r = let e = r.0 in cc
-reports-pass (job.Check name opts) p m text h r = cc
-
--- a job that lists states has no report of what does not pass
-pub ample-passes : (told : Option Table) (j : Option Job) (text : List ℕ) → IsAmpleFile told j → IsJobReport told j false text → ⊥
-ample-passes told None text a r = a
-ample-passes None (Some j) text a r = a
-ample-passes (Some files) (Some j) text a r = reports-pass j r.report.program r.report.model text a.2.lists r.report.is

@@ -1,5 +1,6 @@
 -- Lemmas on what a text is read as.
-use Rattle.std.proofs.Common.{◌≡◌, ℕ, List, Result, Ok, Err, IfOk, IfErr, IsFalse, sym, inl, inr, subst}
+use Rattle.std.proofs.Common.{◌≡◌, ℕ, Bool, List, Result, Ok, Err, IfErr, sym, inl, inr, subst}
+use Rattle.std.specs.Result.{IsErrAnd}
 use Rattle.cov_syntax.specs.declared.fault.ModelFault.{ModelFault}
 use Rattle.cov_syntax.specs.declared.fault.Refused.TheVariants as refused
 use Rattle.cov_syntax.specs.declared.program.Program.{Program}
@@ -13,14 +14,14 @@ use Rattle.cov_model.specs.Accepted.{kinds}
 use Rattle.cov_modules.specs.Flatten.{flat}
 use Rattle.cov_top.specs.Accepting.{IsReadAs, TellsProgramFault}
 use Rattle.cov_top.specs.Reading.{IsAccepted, IsProgramText, IsTextFault}
-use Rattle.cov_top.specs.Serving.{IsNotServed, serves}
-use Rattle.cov_top.specs.Run.{IsReportOn, IsTextReport}
-use Rattle.cov_top.specs.declared.reading.Accepted.{Accepted}
+use Rattle.cov_jobs.specs.Jobs.{IsReportOn}
+use Rattle.cov_top.specs.Run.{IsTextReport}
+use Rattle.cov_jobs.specs.declared.fault.JobFault.{JobFault}
+use Rattle.cov_jobs.specs.declared.fault.JobFault.TheVariants as job
+use Rattle.cov_jobs.specs.Faults.{IsJobFault}
 use Rattle.cov_space.specs.Meters.{MeterOf}
-use Rattle.cov_top.specs.Stops.{IsModelStop, IsTextStop}
+use Rattle.cov_top.specs.Stops.{IsTextStop, of_job}
 use Rattle.cov_top.specs.declared.refusal.NoReport.{NoReport}
-use Rattle.cov_top.specs.declared.refusal.NoReport.TheVariants as no_report
-use Rattle.cov_top.specs.declared.report.Report.{Report}
 use Rattle.cov_words.specs.declared.job.Job.{Job}
 
 -- a program with a fault has no model
@@ -49,41 +50,32 @@ one-program text found p cut only q r =
 one-model : (p : Program) (u v c m : Model) → flat p ≡ Ok u → flat p ≡ Ok v → kinds u ≡ Ok c → kinds v ≡ Ok m → m ≡ c
 one-model p u v c m e f g h = cc
 
--- what the one reading of a text is not served as, no reading is
-unserved : (j : Job) (text : List ℕ) (p : Program) (c : Model) → IsAccepted text p c → ((q : Program) → IsProgramText text q → q ≡ p) → IsFalse (serves j p)
-    → (q : Program) (m : Model) → IsAccepted text q m → IsFalse (serves j q)
-unserved j text p c acc only fails q m a = subst (λ r. IsFalse (serves j r)) (sym (only q a.reads)) fails
-
 -- a text is accepted as no other model than the one that its one program has
 pub only-model : (text : List ℕ) (p : Program) (c : Model) → IsAccepted text p c → ((q : Program) → IsProgramText text q → q ≡ p) → (q : Program) (m : Model) → IsAccepted text q m → m ≡ c
 only-model text p c acc only q m a =
     one-model p acc.unsettled a.unsettled c m acc.flat (subst (λ r. flat r ≡ Ok a.unsettled) (only q a.reads) a.flat) acc.kinds a.kinds
 
--- what is read and not served
-pub not-served : (j : Job) (text : List ℕ) (a : Accepted) (r : IsReadAs text a) → IsFalse (serves j r.program) → IsNotServed j text
-not-served j text a r fails = record { program = r.program; model = a.checked; accepted = r.accepted; unserved = unserved j text r.program a.checked r.accepted r.only fails }
-
 -- the report on what is read is one on its text
-pub text-report : (j : Job) (text : List ℕ) (a : Accepted) (r : IsReadAs text a) (answer : Result Report NoReport)
-    → IfOk answer (λ x. IsReportOn j r.program a.checked x.passes x.text) → IfOk answer (λ x. IsTextReport j text x.passes x.text)
-text-report j text a r (Ok x) h = record { program = r.program; model = a.checked; accepted = r.accepted; is = h }
-text-report j text a r (Err e) h = h
+pub text-report : (j : Job) (text : List ℕ) (m : Model) → IsReadAs text m → (passes : Bool) (shown : List ℕ) → IsReportOn j m passes shown → IsTextReport j text passes shown
+text-report j text m r passes shown is = record { program = r.program; model = m; accepted = r.accepted; only = only-model text r.program m r.accepted r.only; is = is }
 
 -- why what is read has no report
-model-stop : (j : Job) (text : List ℕ) (a : Accepted) (r : IsReadAs text a) (old new : MeterOf) (e : NoReport) → IsModelStop j r.program a.checked old new e → IsTextStop j text old new e
-model-stop j text a r old new (no_report.Fault f) h = (inr (not-served j text a r h.1, h.0), h.2)
-model-stop j text a r old new (no_report.Nodes full) h = record {
+pub text-stop : (j : Job) (text : List ℕ) (m : Model) → IsReadAs text m → (old new : MeterOf) (f : JobFault) → IsJobFault j m old new f → IsTextStop j text old new (of_job f)
+text-stop j text m r old new (job.Asked a) h = (
+  record { program = r.program; model = m; accepted = r.accepted; only = only-model text r.program m r.accepted r.only; asked = h.0 },
+  h.1,
+)
+text-stop j text m r old new (job.Nodes full) h = record {
   program = r.program;
-  model = a.checked;
+  model = m;
   accepted = r.accepted;
-  only = only-model text r.program a.checked r.accepted r.only;
-  lists = h.0;
+  only = only-model text r.program m r.accepted r.only;
+  unasked = h.0;
   out = h.1;
 }
-model-stop j text a r old new no_report.Memory h = h
+text-stop j text m r old new job.Memory h = h
 
--- the same of an answer
-pub text-stop : (j : Job) (text : List ℕ) (a : Accepted) (r : IsReadAs text a) (old new : MeterOf) (answer : Result Report NoReport)
-    → IfErr answer (IsModelStop j r.program a.checked old new) → IfErr answer (IsTextStop j text old new)
-text-stop j text a r old new (Ok x) h = h
-text-stop j text a r old new (Err e) h = model-stop j text a r old new e h
+-- the exit of a job that has no report
+pub stop-exit : {X : Type 0} (answer : Result X NoReport) (stop : NoReport → Type 0) (f : JobFault) → IsErrAnd answer (λ e. e ≡ of_job f) → stop (of_job f) → IfErr answer stop
+stop-exit (Ok x) stop f is h = tt
+stop-exit (Err e) stop f is h = subst stop (sym is) h

@@ -1,19 +1,21 @@
 -- Lemmas on the causes of a run's answers.
-use Rattle.std.proofs.Common.{◌≡◌, ℕ, Bool, ◌<◌, List, [], Option, Some, None, length, Err, IsTrue, refl, sym, inl, inr, subst}
+use Rattle.std.proofs.Common.{◌≡◌, ℕ, Bool, ◌<◌, List, [], Option, Some, None, length, Err, refl, sym, inl, inr, subst}
 use Rattle.std.proofs.lemmas.Bool.{lt-ltb}
 use Rattle.cov_io.specs.Outside.{Table, IsFile}
 use Rattle.cov_syntax.specs.Tokens as spec
-use Rattle.cov_syntax.specs.declared.program.Program.{Program}
-use Rattle.cov_model.specs.declared.model.Model as models
+use Rattle.cov_top.specs.ErrorLine.{named}
 use Rattle.cov_top.specs.Transfer.{IsLonger}
 use Rattle.cov_top.specs.Reading.{IsTextFault}
-use Rattle.cov_top.specs.Serving.{serves}
 use Rattle.cov_space.specs.Meters.{MeterOf}
-use Rattle.cov_top.specs.Refusal.{IsCause, IsRefusal, IsUnread, file_too_long}
+use Rattle.cov_model.specs.declared.model.Model as models
+use Rattle.cov_jobs.specs.declared.fault.AskFault.{AskFault}
+use Rattle.cov_jobs.specs.declared.fault.AskFault.TheVariants.{UnknownSignal}
+use Rattle.cov_jobs.specs.Faults.{IsAsked}
+use Rattle.cov_top.specs.Refusal.{IsAnswerable, IsCause, IsRefusal, IsTold, IsUnread, file_too_long}
 use Rattle.cov_words.specs.Words.{model_name}
-use Rattle.cov_top.specs.Run.{IsAcceptedFile, IsFaultOf, IsInputFault, IsJobReport, IsPlace, IsRefusedFile, IsReportOn, IsServed, IsTextReport}
+use Rattle.cov_top.specs.Run.{IsAcceptedFile, IsInputFault, IsJobReport, IsPlace, IsRefusedFile, HasModel, IsTextReport}
 use Rattle.cov_words.specs.declared.job.Job.{Job}
-use Rattle.cov_words.specs.declared.job.Job.TheVariants.{Init, Reach, Check}
+use Rattle.cov_words.specs.declared.job.Job.TheVariants.{Init, Reach, Check, Vacuity, Cover}
 use Rattle.cov_top.specs.declared.refusal.Refusal.{Refusal}
 use Rattle.cov_space.specs.declared.fault.NodesFull.{NodesFull}
 use Rattle.cov_top.specs.Nodes.{IsJobShort, KeepsMeter}
@@ -21,14 +23,14 @@ use Rattle.cov_top.specs.Stops.{IsTextStop}
 use Rattle.cov_top.specs.declared.refusal.NoReport.{NoReport}
 use Rattle.cov_top.specs.declared.refusal.NoReport.TheVariants as no_report
 use Rattle.cov_syntax.specs.declared.fault.ModelFault.{ModelFault}
-use Rattle.cov_top.specs.declared.status.Status.TheVariants.{Input, Nodes, Memory}
+use Rattle.cov_top.specs.declared.status.Status.TheVariants.{Input, Nodes, Memory, Asked}
 use Rattle.cov_top.specs.declared.status.Status.{Status}
 use Rattle.cov_top.specs.declared.status.InputFault.{InputFault}
 use Rattle.cov_top.specs.declared.status.InputFault.TheVariants.{Model}
 
 -- the refusal of a file with more bytes than the limit
 abbrev too_long : Refusal
-too_long = record { status = Input (Model file_too_long); position = record { line = 1; column = 1 }; word = None }
+too_long = record { status = Input (Model file_too_long); position = record { line = 1; column = 1 }; word = None; signal = None }
 
 tokens-long : (text : List ℕ) → 1048576 < length text → spec.tokens text ≡ Err file_too_long
 unfolding spec.tokens
@@ -39,9 +41,9 @@ fault-long text h = let e = tokens-long text h in record { refused = λ p m a. l
 
 input-longer : (told : Option Table) (j : Job) → IsLonger told (model_name j) 1048576 → IsInputFault told (Some j) (Model file_too_long)
 input-longer None j h = tt
-input-longer (Some files) j h = (h.0, h.1, inl (fault-long h.0 h.2))
+input-longer (Some files) j h = (h.0, h.1, fault-long h.0 h.2)
 
-place-longer : (told : Option Table) (j : Job) → IsLonger told (model_name j) 1048576 → IsPlace told (Some j) too_long.status 1 1 None
+place-longer : (told : Option Table) (j : Job) → IsLonger told (model_name j) 1048576 → IsPlace told (Some j) too_long.status 1 1 None []
 place-longer None j h = ([], tt, refl, refl, refl)
 place-longer (Some files) j h = (h.0, (h.1, refl), refl, refl, refl)
 
@@ -53,22 +55,27 @@ refusal-longer told before now j old new name r is h e kept =
 
 -- a refusal by its status
 by-status : (told : Option Table) (before now : ℕ) (j : Option Job) (old new : MeterOf) (r : Refusal) (s : Status) → r.status ≡ s
-    → IsCause told before now j old new s → KeepsMeter s old new → IsPlace told j s r.position.line r.position.column r.word → IsRefusal told before now j old new r
+    → IsCause told before now j old new s → KeepsMeter s old new → IsPlace told j s r.position.line r.position.column r.word (named r.signal) → IsRefusal told before now j old new r
 by-status told before now j old new r s e cause meter place = record {
   cause = subst (λ t. IsCause told before now j old new t) (sym e) cause;
   meter = subst (λ t. KeepsMeter t old new) (sym e) meter;
-  place = subst (λ t. IsPlace told j t r.position.line r.position.column r.word) (sym e) place;
+  place = subst (λ t. IsPlace told j t r.position.line r.position.column r.word (named r.signal)) (sym e) place;
 }
 
-input-fault : (told : Option Table) (j : Job) (bytes : List ℕ) (f : ModelFault) → IsFile told (model_name j) (Some bytes) → IsFaultOf j bytes f → IsInputFault told (Some j) (Model f)
+input-fault : (told : Option Table) (j : Job) (bytes : List ℕ) (f : ModelFault) → IsFile told (model_name j) (Some bytes) → IsTextFault bytes f → IsInputFault told (Some j) (Model f)
 input-fault None j bytes f file h = tt
 input-fault (Some files) j bytes f file h = (bytes, file.0, h)
 
 -- the refusal of a text that has no report, which is the whole file of the job
 pub refusal-unread : (told : Option Table) (before now : ℕ) (j : Job) (old new : MeterOf) (bytes : List ℕ) (reason : NoReport) (r : Refusal)
-    → IsFile told (model_name j) (Some bytes) → IsUnread bytes reason r → IsTextStop j bytes old new reason → IsRefusal told before now (Some j) old new r
+    → IsFile told (model_name j) (Some bytes) → IsUnread j bytes reason r → IsTextStop j bytes old new reason → IsRefusal told before now (Some j) old new r
 refusal-unread told before now j old new bytes (no_report.Fault f) r file is stop =
     by-status told before now (Some j) old new r (Input (Model f)) is.0 (input-fault told j bytes f file stop.0) stop.1 (bytes, file, is.1, is.2, is.3)
+refusal-unread told before now j old new bytes (no_report.Asked a) r file is stop =
+    elim is [
+      | inl asked ↦ by-status told before now (Some j) old new r (Asked a) asked.0 (bytes, file, stop.0) stop.1 asked.1
+      | inr memory ↦ by-status told before now (Some j) old new r Memory memory tt stop.1 tt
+    ]
 refusal-unread told before now j old new bytes (no_report.Nodes full) r file is stop =
     by-status told before now (Some j) old new r (Nodes full) is (record { bytes = bytes; file = file; text = stop }) tt tt
 refusal-unread told before now j old new bytes no_report.Memory r file is stop = by-status told before now (Some j) old new r Memory is tt stop tt
@@ -76,32 +83,22 @@ refusal-unread told before now j old new bytes no_report.Memory r file is stop =
 same_bytes : (o : Option (List ℕ)) (a b : List ℕ) → o ≡ Some a → o ≡ Some b → a ≡ b
 same_bytes o a b e f = cc
 
--- what has a report is served
-served : (j : Job) (p : Program) (m : models.Model) (passes : Bool) (text : List ℕ) → IsReportOn j p m passes text → IsTrue (serves j p)
-served (Init name opts) p m passes text r = refl
-served (Reach name opts) p m passes text r = refl
-served (Check name opts) p m passes text r = rw (r.1) refl
+reported : (j : Job) (bytes : List ℕ) (passes : Bool) (text : List ℕ) → IsTextReport j bytes passes text → HasModel bytes
+reported j bytes passes text r = record { program = r.program; model = r.model; accepted = r.accepted }
 
-reported : (j : Job) (bytes : List ℕ) (passes : Bool) (text : List ℕ) → IsTextReport j bytes passes text → IsServed j bytes
-reported j bytes passes text r = record { program = r.program; model = r.model; accepted = r.accepted; served = served j r.program r.model passes text r.is }
-
--- a file that is accepted as no model that the job serves has no report
+-- a file that is accepted as no model has no report
 pub refused-report : (told : Option Table) (j : Option Job) (passes : Bool) (text : List ℕ) → IsRefusedFile told j → IsJobReport told j passes text → ⊥
 refused-report told None passes text h r = h
 refused-report None (Some j) passes text h r = h
 refused-report (Some files) (Some j) passes text h r =
-    h.2 (subst (λ b. IsServed j b) (same_bytes _ r.bytes h.0 r.file.0 h.1) (reported j r.bytes passes text r.report))
+    h.2 (subst HasModel (same_bytes _ r.bytes h.0 r.file.0 h.1) (reported j r.bytes passes text r.report))
 
--- what is served has no fault
-served-fault : (j : Job) (bytes : List ℕ) (s : IsServed j bytes) → (f : _) → IsFaultOf j bytes f → ⊥
-served-fault j bytes s f (inl t) = t.refused s.program s.model s.accepted
-served-fault j bytes s f (inr n) = let unserved = n.0.unserved s.program s.model s.accepted in let yes = s.served in absurd cc
-
--- a file that is accepted as a model that the job serves has no fault
+-- a file that is accepted as a model has no fault
 pub accepted-fault : (told : Option Table) (j : Option Job) (f : InputFault) → IsAcceptedFile told j → IsInputFault told j f → ⊥
 accepted-fault told None f h r = h
 accepted-fault None (Some j) f h r = h
-accepted-fault (Some files) (Some j) (Model f) h r = served-fault j r.0 (subst (λ b. IsServed j b) (same_bytes _ h.0 r.0 h.1 r.1) h.2) f r.2
+accepted-fault (Some files) (Some j) (Model f) h r =
+    let a : HasModel r.0 = subst HasModel (same_bytes _ h.0 r.0 h.1 r.1) h.2 in r.2.refused a.program a.model a.accepted
 
 pub accepted-refusal : (told : Option Table) (before now : ℕ) (j : Option Job) (old new : MeterOf) (r : Refusal) → IsAcceptedFile told j → IsRefusal told before now j old new r → (f : InputFault) → r.status ≡ Input f → ⊥
 accepted-refusal told before now j old new r h is f e = accepted-fault told j f h (subst (λ s. IsCause told before now j old new s) e is.cause)
@@ -110,3 +107,17 @@ accepted-refusal told before now j old new r h is f e = accepted-fault told j f 
 pub short-refusal : (told : Option Table) (before now : ℕ) (j : Option Job) (old new : MeterOf) (r : Refusal) → IsRefusal told before now j old new r → (full : NodesFull) → r.status ≡ Nodes full
     → IsJobShort told j old new full
 short-refusal told before now j old new r is full e = subst (λ s. IsCause told before now j old new s) e is.cause
+
+told-question : (m : models.Model) (j : Job) (a : AskFault) → IsAsked m j a → IsTold j a
+told-question m (Init name opts) a asked = asked
+told-question m (Reach name opts) a asked = asked
+told-question m (Check name opts) a asked = asked
+told-question m (Vacuity name opts) a asked = asked
+told-question m (Cover name signals opts) (UnknownSignal place) asked = (asked.from, asked.to)
+
+-- the signal that a job asks for in vain is one of its signals
+pub answerable : (j : Job) (bytes : List ℕ) (old new : MeterOf) (reason : NoReport) → IsTextStop j bytes old new reason → IsAnswerable j reason
+answerable j bytes old new (no_report.Fault f) stop = tt
+answerable j bytes old new (no_report.Asked a) stop = told-question stop.0.model j a stop.0.asked
+answerable j bytes old new (no_report.Nodes full) stop = tt
+answerable j bytes old new no_report.Memory stop = tt

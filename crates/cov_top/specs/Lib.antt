@@ -4,10 +4,7 @@ pub mod Nodes
 pub mod Position
 pub mod Reading
 pub mod Refusal
-pub mod Report
 pub mod Run
-pub mod Serving
-pub mod ShowExprs
 pub mod Status
 pub mod Stops
 pub mod Transfer

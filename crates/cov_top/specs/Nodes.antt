@@ -1,33 +1,28 @@
 -- When a run is out of nodes, and when it can't be.
-use Rattle.std.specs.Prelude.{◌≡◌, ℕ, ◌≤◌, Bool, true, false, List, Option, Some, None, IsTrue}
+use Rattle.std.specs.Prelude.{◌≡◌, ℕ, ◌≤◌, List, Option, Some, None}
 use Rattle.cov_io.specs.Outside.{Table, file_of, IsFile}
 use Rattle.cov_syntax.specs.declared.program.Program.{Program}
 use Rattle.cov_model.specs.declared.model.Model as models
 use Rattle.cov_space.specs.declared.fault.NodesFull.{NodesFull}
 use Rattle.cov_space.specs.Meters.{MeterOf}
 use Rattle.cov_sym.specs.Systems.{IsOutOfNodes}
+use Rattle.cov_jobs.specs.declared.fault.AskFault.{AskFault}
+use Rattle.cov_jobs.specs.Faults.{IsAsked}
 use Rattle.cov_types.specs.Roots.{enough}
 use Rattle.cov_words.specs.Words.{model_name, opts_of}
 use Rattle.cov_words.specs.declared.job.Job.{Job}
-use Rattle.cov_words.specs.declared.job.Job.TheVariants.{Init, Reach, Check}
 use Rattle.cov_top.specs.Reading.{IsAccepted}
 use Rattle.cov_top.specs.declared.status.Status.{Status}
 use Rattle.cov_top.specs.declared.status.Status.TheVariants.{Nodes}
 
--- whether a job lists the states of a set, which takes nodes
-abbrev pub lists_states : Job → Bool
-lists_states (Init name opts) = true
-lists_states (Reach name opts) = true
-lists_states (Check name opts) = false
-
--- A text is accepted as one model and as no other, and an operation on its sets was refused, which the meter was told: the
+-- A text is accepted as one model and as no other, of which the job asks what it has, and an operation on its sets was refused, which the meter was told: the
 -- nodes of the job are fewer than what is enough for the model.
 pub record IsTextShort (j : Job) (bytes : List ℕ) (old new : MeterOf) (full : NodesFull) : Type 0 where
   pub program : Program
   pub model : models.Model
   pub accepted : IsAccepted bytes program model
   pub only : (p : Program) (m : models.Model) → IsAccepted bytes p m → m ≡ model
-  pub lists : IsTrue (lists_states j)
+  pub unasked : (a : AskFault) → IsAsked model j a → ⊥
   pub out : IsOutOfNodes model (opts_of j).nodes old new full
 
 -- the same of the whole file of the job
@@ -46,12 +41,12 @@ abbrev pub KeepsMeter : Status → MeterOf → MeterOf → Type 0
 KeepsMeter (Nodes full) old new = Unit {0}
 KeepsMeter s old new = new ≡ old
 
--- a text is accepted as a model for which the nodes of the job are enough
+-- a text is accepted as a model of which the job asks what it has, and for which its nodes are enough
 pub record IsAmple (j : Job) (bytes : List ℕ) : Type 0 where
   pub program : Program
   pub model : models.Model
   pub accepted : IsAccepted bytes program model
-  pub lists : IsTrue (lists_states j)
+  pub unasked : (a : AskFault) → IsAsked model j a → ⊥
   pub nodes : enough model ≤ (opts_of j).nodes
 
 -- files are told, and the one that the job names is accepted as a model for which its nodes are enough

@@ -1,7 +1,7 @@
 -- The exit status of each way to end.
 use Rattle.std.specs.Prelude.{ℕ}
 use Rattle.cov_top.specs.declared.status.Status.{Status}
-use Rattle.cov_top.specs.declared.status.Status.TheVariants.{Done, Fails, Words, Input, Read, Write, Nodes, Memory}
+use Rattle.cov_top.specs.declared.status.Status.TheVariants.{Done, Fails, Words, Input, Read, Write, Nodes, Memory, Asked}
 
 -- the exit status
 abbrev pub code_of : Status → ℕ
@@ -13,3 +13,4 @@ code_of Read = 4
 code_of Write = 5
 code_of (Nodes full) = 6
 code_of Memory = 7
+code_of (Asked a) = 8

@@ -1,13 +1,15 @@
-ghost use Rattle.std.specs.Prelude.{◌≡◌, ◌≤◌, ◌+◌, ◌++◌, length};
+ghost use Rattle.std.specs.Prelude.{◌≡◌, ◌≢◌, ℕ, ◌≤◌, ◌+◌, ◌++◌, List, length};
+ghost use Rattle.cov_jobs.specs.declared.fault.AskFault.{AskFault as Ask};
 ghost use Rattle.cov_syntax.specs.Words.{word_spelling};
 ghost use Rattle.arrayvec.specs.ArrayString.{array_string_len};
-ghost use Rattle.cov_top.specs.ErrorLine.{behind_space, error_line, model_line, nodes_line, PutsLine};
+ghost use Rattle.cov_top.specs.ErrorLine.{behind_space, error_line, model_line, nodes_line, signal_line, PutsLine};
 
 use crate::position::Position;
 use crate::status::{InputFault, Status};
 use crate::transfer::put_all;
 use arrayvec::ArrayString;
 use cov_io::Sink;
+use cov_jobs::AskFault;
 use cov_space::NodesFull;
 use cov_syntax::{ModelFault, Word};
 use itoa::Buffer;
@@ -71,12 +73,12 @@ fn nodes_line(full: NodesFull) -> ArrayString<LINE>
     line
 }
 
-/// The line of a status above 1, and nothing for any other.
+/// The line of a status above 1 that tells no signal, and nothing for any other.
 fn line_of_status(status: Status, position: Position, word: Option<Word>) -> ArrayString<LINE>
-    ensures { result.bytes ≡ error_line status position.line position.column word }
+    ensures { ((a : Ask) → status ≢ Status.Asked a) → (signal : List ℕ) → result.bytes ≡ error_line status position.line position.column word signal }
 {
     let text = match status {
-        Status::Done | Status::Fails => "",
+        Status::Done | Status::Fails | Status::Asked(_) => "",
         Status::Words => "usage: covsmv COMMAND MODEL [SIGNAL..] [OPTIONS]\n",
         Status::Input(InputFault::Model(fault)) => return model_line(fault, position, word),
         Status::Read => "read failed\n",
@@ -89,17 +91,43 @@ fn line_of_status(status: Status, position: Position, word: Option<Word>) -> Arr
     line
 }
 
-/// Puts the one line of a status above 1, or a front of it where the sink fails. It takes no memory.
+/// Puts the line on a signal that the model does not have, which may be of any length.
+fn put_signal_line<E: Sink>(err: &mut E, signal: &[u8])
+    ensures line { PutsLine (E.wrote err.old) (E.wrote err.new) (E.faults err.old) (E.faults err.new) (signal_line signal.now) }
+    ensures later { E.faults err.old ≤ E.faults err.new }
+{
+    if put_all(err, b"asked: UnknownSignal ").is_err() {
+        return;
+    }
+    if put_all(err, signal).is_err() {
+        return;
+    }
+    let _ = put_all(err, b"\n");
+}
+
+/// Puts the line of a status that tells no signal.
+fn put_status_line<E: Sink>(err: &mut E, status: Status, position: Position, word: Option<Word>)
+    ensures line { ((a : Ask) → status ≢ Status.Asked a) → (signal : List ℕ) → PutsLine (E.wrote err.old) (E.wrote err.new) (E.faults err.old) (E.faults err.new) (error_line status position.line position.column word signal) }
+    ensures later { E.faults err.old ≤ E.faults err.new }
+{
+    let line = line_of_status(status, position, word);
+    let _ = put_all(err, line.as_str().as_bytes());
+}
+
+/// Puts the one line of a status above 1, or a front of it where the sink fails. It takes no memory. What the error stream
+/// refuses can be told nowhere else.
 pub(crate) fn put_error_line<E: Sink>(
     err: &mut E,
     status: Status,
     position: Position,
     word: Option<Word>,
+    signal: &[u8],
 )
-    ensures line { PutsLine (E.wrote err.old) (E.wrote err.new) (E.faults err.old) (E.faults err.new) (error_line status position.line position.column word) }
+    ensures line { PutsLine (E.wrote err.old) (E.wrote err.new) (E.faults err.old) (E.faults err.new) (error_line status position.line position.column word signal.now) }
     ensures later { E.faults err.old ≤ E.faults err.new }
 {
-    let line = line_of_status(status, position, word);
-    // What the error stream refuses can be told nowhere else.
-    let _ = put_all(err, line.as_str().as_bytes());
+    match status {
+        Status::Asked(AskFault::UnknownSignal(_)) => put_signal_line(err, signal),
+        _ => put_status_line(err, status, position, word),
+    }
 }

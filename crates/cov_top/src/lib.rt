@@ -6,11 +6,9 @@ mod position;
 mod program;
 mod reading;
 mod refusal;
-mod report;
-mod show_expr;
-mod states;
 mod status;
 mod transfer;
 
+pub use cov_jobs::AskFault;
 pub use program::run;
 pub use status::{InputFault, Status};

@@ -1,8 +1,8 @@
-ghost use Rattle.std.specs.Prelude.{◌≡◌, ◌≢◌, ◌≤◌, ℕ, Bool, true, false, List, ◌⊎◌, Option, None, Some, IfOk, IfErr, OnOk};
+ghost use Rattle.std.specs.Prelude.{◌≡◌, ◌≢◌, ◌≤◌, ℕ, Bool, true, false, List, [], ◌⊎◌, Option, None, Some, IfOk, IfErr, OnOk};
 ghost use Rattle.cov_io.specs.Outside.{Rose, Gains};
-ghost use Rattle.cov_top.specs.ErrorLine.{error_line, PutsLine};
+ghost use Rattle.cov_top.specs.ErrorLine.{error_line, named, PutsLine};
 ghost use Rattle.cov_top.specs.Nodes.{IsAmpleFile, IsJobShort};
-ghost use Rattle.cov_top.specs.Run.{IsInputFault, IsJobReport, IsAcceptedFile, IsMissing, IsPlace, IsRefusedFile, IsTextReport};
+ghost use Rattle.cov_top.specs.Run.{IsAskedFile, IsInputFault, IsJobReport, IsAcceptedFile, IsMissing, IsPlace, IsRefusedFile, IsTextReport, IsUnknownFile};
 ghost use Rattle.cov_top.specs.Refusal.{IsRefusal};
 ghost use Rattle.cov_top.specs.Stops.{IsTextStop};
 ghost use Rattle.cov_top.specs.Transfer.{GainsPart};
@@ -12,10 +12,10 @@ use crate::error_line::put_error_line;
 use crate::position::Position;
 use crate::reading::read_model;
 use crate::refusal::{NoReport, Refusal, refuse, too_long, unread};
-use crate::report::{Report, job_report};
 use crate::status::{InputFault, Status};
 use crate::transfer::{ReadFault, put_all, read_file};
 use cov_io::{Files, Sink};
+use cov_jobs::{AskFault, Report, job_report};
 use cov_space::{Meter, NodesFull};
 use cov_syntax::Word;
 use cov_words::{Job, WordsFault, read_words};
@@ -44,7 +44,7 @@ fn report_on<F: Files>(
     };
     match report_on_text(alloc, job, text.as_slice(), meter) {
         Ok(report) => Ok(report),
-        Err(reason) => Err(unread(text.as_slice(), reason)),
+        Err(reason) => Err(unread(alloc, job, text.as_slice(), reason)),
     }
 }
 
@@ -59,8 +59,8 @@ fn report_on_text(
     ensures untold { OnOk result (meter.new ≡ meter.old) }
     ensures err { IfErr result (IsTextStop job.now text.now meter.old meter.new) }
 {
-    let accepted = read_model(alloc, text)?;
-    job_report(alloc, job, &accepted, meter)
+    let model = read_model(alloc, text)?;
+    Ok(job_report(alloc, job, &model, meter)?)
 }
 
 /// The report of the words' job, made whole before any of it is put.
@@ -87,7 +87,7 @@ fn put_report<O: Sink, E: Sink>(out: &mut O, err: &mut E, report: &Report) -> St
     ensures done { result ≡ Status.Done → (report.now.passes ≡ true) × Gains (O.wrote out.old) (O.wrote out.new) report.now.text × (E.wrote err.new ≡ E.wrote err.old) }
     ensures fails { result ≡ Status.Fails → (report.now.passes ≡ false) × Gains (O.wrote out.old) (O.wrote out.new) report.now.text × (E.wrote err.new ≡ E.wrote err.old) }
     ensures part { result ≡ Status.Write → GainsPart (O.wrote out.old) (O.wrote out.new) report.now.text × Rose (O.faults out.old) (O.faults out.new) }
-    ensures line { result ≡ Status.Write → PutsLine (E.wrote err.old) (E.wrote err.new) (E.faults err.old) (E.faults err.new) (error_line Status.Write 1 1 None) }
+    ensures line { result ≡ Status.Write → PutsLine (E.wrote err.old) (E.wrote err.new) (E.faults err.old) (E.faults err.new) (error_line Status.Write 1 1 None []) }
     ensures which { (result ≡ Status.Done) ⊎ ((result ≡ Status.Fails) ⊎ (result ≡ Status.Write)) }
     ensures out_later { O.faults out.old ≤ O.faults out.new }
     ensures err_later { E.faults err.old ≤ E.faults err.new }
@@ -96,10 +96,22 @@ fn put_report<O: Sink, E: Sink>(out: &mut O, err: &mut E, report: &Report) -> St
         Ok(()) if report.passes => Status::Done,
         Ok(()) => Status::Fails,
         Err(_) => {
-            put_error_line(err, Status::Write, Position::START, None);
+            put_error_line(err, Status::Write, Position::START, None, b"");
             Status::Write
         }
     }
+}
+
+/// Puts the line of a refusal.
+fn put_refusal<E: Sink>(err: &mut E, refusal: &Refusal)
+    ensures line { PutsLine (E.wrote err.old) (E.wrote err.new) (E.faults err.old) (E.faults err.new) (error_line refusal.now.status refusal.now.position.line refusal.now.position.column refusal.now.word (named refusal.now.signal)) }
+    ensures later { E.faults err.old ≤ E.faults err.new }
+{
+    let signal: &[u8] = match &refusal.signal {
+        Some(signal) => signal.as_slice(),
+        None => b"",
+    };
+    put_error_line(err, refusal.status, refusal.position, refusal.word, signal);
 }
 
 /// Does all that the program does: reads the file of the words' job, and puts its report, or else the
@@ -123,9 +135,9 @@ pub fn run<F: Files, O: Sink, E: Sink>(
 
     // What was told on the error stream.
     ensures quiet { (result ≡ Status.Done) ⊎ (result ≡ Status.Fails) → E.wrote err.new ≡ E.wrote err.old }
-    ensures line { result ≢ Status.Done → result ≢ Status.Fails → (line : ℕ) × (column : ℕ) × (word : Option Word)
-        × IsPlace (F.told files.old) (job words.now) result line column word
-        × PutsLine (E.wrote err.old) (E.wrote err.new) (E.faults err.old) (E.faults err.new) (error_line result line column word) }
+    ensures line { result ≢ Status.Done → result ≢ Status.Fails → (line : ℕ) × (column : ℕ) × (word : Option Word) × (signal : List ℕ)
+        × IsPlace (F.told files.old) (job words.now) result line column word signal
+        × PutsLine (E.wrote err.old) (E.wrote err.new) (E.faults err.old) (E.faults err.new) (error_line result line column word signal) }
 
     // The cause of each status. Want of memory is free.
     ensures words { result ≡ Status.Words → job words.now ≡ None }
@@ -133,6 +145,7 @@ pub fn run<F: Files, O: Sink, E: Sink>(
     ensures read { result ≡ Status.Read → Rose (F.faults files.old) (F.faults files.new) ⊎ IsMissing (F.told files.old) (job words.now) }
     ensures write { result ≡ Status.Write → Rose (O.faults out.old) (O.faults out.new) }
     ensures nodes { (full : NodesFull) → result ≡ Status.Nodes full → IsJobShort (F.told files.old) (job words.now) meter.old meter.new full }
+    ensures asked { (a : AskFault) → result ≡ Status.Asked a → IsAskedFile (F.told files.old) (job words.now) a }
     ensures untold { ((full : NodesFull) → result ≢ Status.Nodes full) → meter.new ≡ meter.old }
 
     // What can be answered nothing else.
@@ -140,9 +153,10 @@ pub fn run<F: Files, O: Sink, E: Sink>(
     ensures missing { IsMissing (F.told files.old) (job words.now) → (result ≡ Status.Read) ⊎ (result ≡ Status.Memory) }
     ensures accepted { IsAcceptedFile (F.told files.old) (job words.now) → (f : InputFault) → result ≢ Status.Input f }
     ensures refused { IsRefusedFile (F.told files.old) (job words.now) → (result ≢ Status.Done) × (result ≢ Status.Fails) × (result ≢ Status.Write) }
+    ensures unknown { (a : AskFault) → IsUnknownFile (F.told files.old) (job words.now) a → (Rose (F.faults files.old) (F.faults files.new) → ⊥) → (result ≡ Status.Asked a) ⊎ (result ≡ Status.Memory) }
     ensures enough { IsAmpleFile (F.told files.old) (job words.now) → (full : NodesFull) → result ≢ Status.Nodes full }
     ensures complete { IsAmpleFile (F.told files.old) (job words.now) → (Rose (F.faults files.old) (F.faults files.new) → ⊥) → (Rose (O.faults out.old) (O.faults out.new) → ⊥)
-        → (result ≡ Status.Done) ⊎ (result ≡ Status.Memory) }
+        → (result ≡ Status.Done) ⊎ ((result ≡ Status.Fails) ⊎ (result ≡ Status.Memory)) }
 
     // Counts never fall.
     ensures files_later { F.faults files.old ≤ F.faults files.new }
@@ -152,7 +166,7 @@ pub fn run<F: Files, O: Sink, E: Sink>(
     match report_of(alloc, words, files, meter) {
         Ok(report) => put_report(out, err, &report),
         Err(refusal) => {
-            put_error_line(err, refusal.status, refusal.position, refusal.word);
+            put_refusal(err, &refusal);
             refusal.status
         }
     }

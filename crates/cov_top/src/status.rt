@@ -1,6 +1,7 @@
 ghost use Rattle.std.specs.Prelude.{◌≡◌};
 ghost use Rattle.cov_top.specs.Status.{code_of};
 
+use cov_jobs::AskFault;
 use cov_space::NodesFull;
 use cov_syntax::ModelFault;
 
@@ -21,6 +22,7 @@ pub enum Status {
     Write,
     Nodes(NodesFull),
     Memory,
+    Asked(AskFault),
 }
 
 impl Status {
@@ -37,6 +39,7 @@ impl Status {
             Status::Write => 5,
             Status::Nodes(_) => 6,
             Status::Memory => 7,
+            Status::Asked(_) => 8,
         }
     }
 }

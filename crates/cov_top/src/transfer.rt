@@ -1,4 +1,4 @@
-ghost use Rattle.std.specs.Prelude.{◌≡◌, ◌<◌, ◌≤◌, ◌^◌, ◌⊎◌, Some, length, IfOk, OnOk, OnErr};
+ghost use Rattle.std.specs.Prelude.{◌≡◌, ◌<◌, ◌≤◌, ◌⊎◌, Some, length, IfOk, OnOk, OnErr};
 ghost use Rattle.cov_io.specs.Outside.{Rose, IsAbsent, IsFile, Gains};
 ghost use Rattle.cov_top.specs.Transfer.{GainsPart, IsLonger};
 

@@ -1,9 +1,11 @@
 -- Words that are sorted one after another.
-use Rattle.std.proofs.Common.{ℕ, ◌≡◌, ◌<◌, ◌+◌, List, ◌∷◌, None, refl, ◌∙◌, ap, drop, length, arith, map, String, string_bytes, get_or, drop-cons, add-one}
+use Rattle.std.proofs.Common.{ℕ, ◌≡◌, ◌<◌, ◌+◌, List, ◌∷◌, None, Err, refl, ◌∙◌, ap, drop, length, arith, map, String, string_bytes, get_or, drop-cons, add-one}
 use Rattle.std.specs.declared.alloc.Global.{Global}
 use Rattle.cov_words.specs.Words.{Sorted, sorted, nothing}
-use Rattle.cov_words.specs.Sorting.{IsBrief, GoesOn, Steps}
+use Rattle.cov_words.specs.Sorting.{IsBrief, GoesOn, Sorts, Steps}
 use Rattle.cov_words.specs.declared.brief.Brief.{Brief}
+use Rattle.cov_words.specs.declared.job.WordsFault.{WordsFault}
+use Rattle.cov_words.specs.declared.job.WordsFault.TheVariants.{Words, Memory}
 use Rattle.cov_words.specs.declared.sort.Step.{Step}
 use Rattle.cov_words.specs.declared.brief.Given.TheVariants.{Never}
 use Rattle.std.proofs.lemmas.List.{drop-map, drop-drop}
@@ -14,7 +16,7 @@ pub record IsLeft (words : List (List ℕ)) (at : ℕ) (b : Brief) : Type 0 wher
   pub brief : IsBrief b s
   pub more : sorted words nothing ≡ sorted (drop at words) s
 
-pub from_nothing : (words : List (List ℕ)) → IsLeft words 0 (record { positional = Never; nodes = Never; cubes = Never })
+pub from_nothing : (words : List (List ℕ)) → IsLeft words 0 (record { positional = None; nodes = Never; cubes = Never })
 from_nothing words = record { s = nothing; brief = record { positional = refl; nodes = refl; cubes = refl }; more = refl }
 
 -- the word at an index, and those behind it
@@ -41,5 +43,6 @@ left_more words at b word rest step left c go =
     }
 
 -- the loop stops at a word that is not sorted
-pub left_none : (words : List (String Global)) (at : ℕ) (b : Brief) (word : List ℕ) (rest : List (String Global)) → IsLeft (map string_bytes words) at b → IsCut words at word rest → ((s : Sorted) → IsBrief b s → Steps word (map string_bytes rest) s None) → sorted (map string_bytes words) nothing ≡ None
-left_none words at b word rest left c go = left.more ∙ ap (λ ws. sorted ws left.s) c.here ∙ go left.s left.brief
+pub left_none : (words : List (String Global)) (at : ℕ) (b : Brief) (word : List ℕ) (rest : List (String Global)) (e : WordsFault) → IsLeft (map string_bytes words) at b → IsCut words at word rest → ((s : Sorted) → IsBrief b s → Steps word (map string_bytes rest) s (Err e)) → Sorts (Err e) (sorted (map string_bytes words) nothing)
+left_none words at b word rest Words left c go = left.more ∙ ap (λ ws. sorted ws left.s) c.here ∙ go left.s left.brief
+left_none words at b word rest Memory left c go = tt

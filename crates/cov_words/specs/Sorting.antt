@@ -1,20 +1,28 @@
--- What is kept of sorted words: of the words of each kind, none, the only one, or that there are more.
-use Rattle.std.specs.Prelude.{ℕ, ◌≡◌, ◌≤◌, List, [], ◌∷◌, Option, Some, None, length, drop, if◌then◌else◌}
+-- What is kept of sorted words: the positional ones, and of the values of an option none, the only one, or that there are more.
+use Rattle.std.specs.Prelude.{ℕ, ◌≡◌, ◌≤◌, List, [], ◌∷◌, Option, Some, None, Result, Ok, Err, length, drop, if◌then◌else◌}
 use Rattle.cov_words.specs.Words.{Sorted, sorted, takes_value}
 use Rattle.cov_words.specs.declared.brief.Given.{Given}
 use Rattle.cov_words.specs.declared.brief.Given.TheVariants.{Never, Once, Again}
 use Rattle.cov_words.specs.declared.brief.Brief.{Brief}
+use Rattle.cov_words.specs.declared.positional.Positional.{Positional}
+use Rattle.cov_words.specs.declared.job.WordsFault.{WordsFault}
+use Rattle.cov_words.specs.declared.job.WordsFault.TheVariants.{Words, Memory}
 use Rattle.cov_words.specs.declared.sort.Step.{Step}
 
--- what is kept of these words
+-- what is kept of these values
 abbrev pub IsGiven : Given → List (List ℕ) → Type 0
 IsGiven Never vs = vs ≡ []
 IsGiven (Once v) vs = vs ≡ v.now ∷ []
 IsGiven Again vs = 2 ≤ length vs
 
+-- what is kept of these positional words: the first, and those behind it
+abbrev pub IsPositional : Option Positional → List (List ℕ) → Type 0
+IsPositional None ps = ps ≡ []
+IsPositional (Some p) ps = ps ≡ p.model ∷ p.signals
+
 -- what is kept of sorted words
 pub record IsBrief (b : Brief) (s : Sorted) : Type 0 where
-  pub positional : IsGiven b.positional s.positional
+  pub positional : IsPositional b.positional s.positional
   pub nodes : IsGiven b.nodes s.nodes
   pub cubes : IsGiven b.cubes s.cubes
 
@@ -25,17 +33,19 @@ pub record GoesOn (word : List ℕ) (words : List (List ℕ)) (s : Sorted) (step
   pub more : sorted (word ∷ words) s ≡ sorted (drop step.taken words) after
   pub within : step.taken ≤ length words
 
--- the answer of one step at a word and those behind it
-abbrev pub Steps : List ℕ → List (List ℕ) → Sorted → Option Step → Type 0
-Steps word words s None = sorted (word ∷ words) s ≡ None
-Steps word words s (Some step) = GoesOn word words s step
+-- the answer of one step at a word and those behind it; want of memory is free
+abbrev pub Steps : List ℕ → List (List ℕ) → Sorted → Result Step WordsFault → Type 0
+Steps word words s (Err Words) = sorted (word ∷ words) s ≡ None
+Steps word words s (Err Memory) = Unit {0}
+Steps word words s (Ok step) = GoesOn word words s step
 
 -- the next word, where it is the value of a word
 abbrev pub next_value : List ℕ → List (List ℕ) → Option (List ℕ)
 next_value word [] = None
 next_value word (v ∷ words) = if takes_value word then Some v else None
 
--- the answer of all steps
-abbrev pub Sorts : Option Brief → Option Sorted → Type 0
-Sorts None r = r ≡ None
-Sorts (Some b) r = (s : Sorted) × IsBrief b s × (r ≡ Some s)
+-- what is kept of words that may not be sorted; want of memory is free
+abbrev pub Sorts : Result Brief WordsFault → Option Sorted → Type 0
+Sorts (Err Words) r = r ≡ None
+Sorts (Err Memory) r = Unit {0}
+Sorts (Ok b) r = (s : Sorted) × IsBrief b s × (r ≡ Some s)

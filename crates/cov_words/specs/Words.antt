@@ -4,7 +4,7 @@ use Rattle.std.specs.List.{list_all}
 use Rattle.std.specs.Str.{bytes_eq}
 use Rattle.std.specs.declared.alloc.Global.{Global}
 use Rattle.cov_words.specs.declared.job.Job.{Job}
-use Rattle.cov_words.specs.declared.job.Job.TheVariants.{Init, Reach, Check}
+use Rattle.cov_words.specs.declared.job.Job.TheVariants.{Init, Reach, Check, Vacuity, Cover}
 use Rattle.cov_words.specs.declared.job.Opts.{Opts}
 
 -- the file of a job's model
@@ -12,12 +12,16 @@ abbrev pub model_name : Job → List ℕ
 model_name (Init model opts) = model
 model_name (Reach model opts) = model
 model_name (Check model opts) = model
+model_name (Vacuity model opts) = model
+model_name (Cover model signals opts) = model
 
 -- the numbers of a job's options
 abbrev pub opts_of : Job → Opts
 opts_of (Init model opts) = opts
 opts_of (Reach model opts) = opts
 opts_of (Check model opts) = opts
+opts_of (Vacuity model opts) = opts
+opts_of (Cover model signals opts) = opts
 
 -- ---- words
 
@@ -42,9 +46,12 @@ pub record Sorted : Type 0 where
 abbrev pub nothing : Sorted
 nothing = record { positional = []; nodes = []; cubes = [] }
 
--- one more positional word, or one more value of an option
+-- one more positional word, all of these more, or one more value of an option
 abbrev pub with_positional : List ℕ → Sorted → Sorted
 with_positional w s = record s { positional = s.positional ++ w ∷ [] }
+
+abbrev pub with_all : List (List ℕ) → Sorted → Sorted
+with_all ws s = record s { positional = s.positional ++ ws }
 
 abbrev pub with_nodes : List ℕ → Sorted → Sorted
 with_nodes v s = record s { nodes = s.nodes ++ v ∷ [] }
@@ -78,7 +85,7 @@ sorted (w ∷ []) s =
     else if is_positional w then Some (with_positional w s)
     else with_joined w s
 sorted (w ∷ v ∷ ws) s =
-    if bytes_eq w (codes "--") then Some (record s { positional = s.positional ++ v ∷ ws })
+    if bytes_eq w (codes "--") then Some (with_all (v ∷ ws) s)
     else if is_positional w then sorted (v ∷ ws) (with_positional w s)
     else if takes_value w then elim (with_value w v s) [ Some t ↦ sorted ws t | None ↦ None ]
     else elim (with_joined w s) [ Some t ↦ sorted (v ∷ ws) t | None ↦ None ]
@@ -122,20 +129,31 @@ abbrev pub is_none : List (List ℕ) → Bool
 is_none [] = true
 is_none (w ∷ ws) = false
 
--- the job of a command on a model; `check` takes no `--cubes`
-abbrev pub command_job : List ℕ → Sorted → List ℕ → Opts → Option Job
-command_job command s model opts =
+-- the job of a command on a model alone; `check` and `vacuity` take no `--cubes`
+abbrev pub model_job : List ℕ → List (List ℕ) → List ℕ → Opts → Option Job
+model_job command cubes model opts =
     if bytes_eq command (codes "init") then Some (Init model opts)
     else if bytes_eq command (codes "reach") then Some (Reach model opts)
-    else if bytes_eq command (codes "check") && is_none s.cubes then Some (Check model opts)
+    else if not (is_none cubes) then None
+    else if bytes_eq command (codes "check") then Some (Check model opts)
+    else if bytes_eq command (codes "vacuity") then Some (Vacuity model opts)
     else None
 
--- the job of a command and its sorted words: exactly one positional word, the model
-abbrev pub sorted_job : List ℕ → Sorted → Option Job
-sorted_job command s = elim s.positional [
-  | model ∷ [] ↦ elim (options s) [ Some opts ↦ command_job command s model opts | None ↦ None ]
-  | _ ↦ None
+-- the job of a command on a model and signals
+abbrev pub signals_job : List ℕ → List ℕ → List (List ℕ) → Opts → Option Job
+signals_job command model signals opts = if bytes_eq command (codes "cover") then Some (Cover model signals opts) else None
+
+-- the job of a command on its positional words: the first is the model, and those behind it are signals
+abbrev pub command_job : List ℕ → Sorted → Opts → Option Job
+command_job command s opts = elim s.positional [
+  | [] ↦ None
+  | model ∷ [] ↦ model_job command s.cubes model opts
+  | model ∷ signal ∷ signals ↦ signals_job command model (signal ∷ signals) opts
 ]
+
+-- the job of a command and its sorted words
+abbrev pub sorted_job : List ℕ → Sorted → Option Job
+sorted_job command s = elim (options s) [ Some opts ↦ command_job command s opts | None ↦ None ]
 
 -- the job of words as bytes: the first is the command
 abbrev pub job_of : List (List ℕ) → Option Job

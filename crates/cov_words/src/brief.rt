@@ -1,8 +1,12 @@
 //! What is kept of words that are sorted.
 
-ghost use Rattle.std.specs.Prelude.{◌≡◌, ℕ, List, ◌++◌, ◌∷◌, [], map, string_bytes};
+ghost use Rattle.std.specs.Prelude.{◌≡◌, ℕ, List, ◌++◌, ◌∷◌, [], IfOk, map, string_bytes};
 ghost use Rattle.cov_words.specs.Words as spec;
 ghost use Rattle.cov_words.specs.Sorting.{IsBrief, IsGiven};
+
+use crate::positional::{Positional, with_word, with_words};
+use cov_syntax::NoMemory;
+use std::alloc::Global;
 
 /// What is given at most once, where two values are as good as more.
 #[derive(Clone, Copy)]
@@ -29,36 +33,37 @@ impl<'a> Given<'a> {
             Given::Once(_) | Given::Again => Given::Again,
         }
     }
-
-    /// All of these words more.
-    fn and_all(self, words: &'a [String]) -> Given<'a>
-        ensures { (vs : List (List ℕ)) → IsGiven self.entry vs → IsGiven result (vs ++ map string_bytes words.now) }
-    {
-        match words {
-            [] => self,
-            [word] => self.and(word.as_bytes()),
-            _ => Given::Again,
-        }
-    }
 }
 
 /// What is kept of sorted words.
-#[derive(Clone, Copy)]
+#[derive(Drop)]
 pub(crate) struct Brief<'a> {
-    pub(crate) positional: Given<'a>,
+    pub(crate) positional: Option<Positional>,
     pub(crate) nodes: Given<'a>,
     pub(crate) cubes: Given<'a>,
 }
 
 impl<'a> Brief<'a> {
     /// One positional word more.
-    pub(crate) fn with_positional(self, word: &'a [u8]) -> Brief<'a>
-        ensures { (s : spec.Sorted) → IsBrief self.entry s → IsBrief result (spec.with_positional word.now s) }
+    pub(crate) fn with_positional(self, alloc: Global, word: &[u8]) -> Result<Brief<'a>, NoMemory>
+        ensures { (s : spec.Sorted) → IsBrief self.entry s → IfOk result (λ b. IsBrief b (spec.with_positional word.now s)) }
     {
-        Brief {
-            positional: self.positional.and(word),
-            ..self
-        }
+        Ok(Brief {
+            positional: Some(with_word(alloc, self.positional, word)?),
+            nodes: self.nodes,
+            cubes: self.cubes,
+        })
+    }
+
+    /// All of these positional words more.
+    pub(crate) fn with_all(self, alloc: Global, words: &[String]) -> Result<Brief<'a>, NoMemory>
+        ensures { (s : spec.Sorted) → IsBrief self.entry s → IfOk result (λ b. IsBrief b (spec.with_all (map string_bytes words.now) s)) }
+    {
+        Ok(Brief {
+            positional: with_words(alloc, self.positional, words)?,
+            nodes: self.nodes,
+            cubes: self.cubes,
+        })
     }
 
     /// One value of `--nodes` more.
@@ -77,16 +82,6 @@ impl<'a> Brief<'a> {
     {
         Brief {
             cubes: self.cubes.and(value),
-            ..self
-        }
-    }
-
-    /// All of these positional words more.
-    pub(crate) fn with_all(self, words: &'a [String]) -> Brief<'a>
-        ensures { (s : spec.Sorted) → IsBrief self.entry s → IsBrief result (record s { positional = s.positional ++ map string_bytes words.now }) }
-    {
-        Brief {
-            positional: self.positional.and_all(words),
             ..self
         }
     }

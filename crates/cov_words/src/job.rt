@@ -1,7 +1,7 @@
 ghost use Rattle.std.specs.Prelude.{◌≡◌};
 ghost use Rattle.cov_words.specs.Words as spec;
 
-use cov_syntax::{NoMemory, Text};
+use cov_syntax::{NoMemory, Seq, Text};
 
 /// The numbers of a job's options.
 #[derive(Clone, Copy, Debug, PartialEq, Eq)]
@@ -12,12 +12,30 @@ pub struct Opts {
     pub cubes: u32,
 }
 
-/// What the words ask for: a command, the file of its model, and its options.
+/// What the words ask for: a command, the file of its model, its signals in their order, and its options.
 #[derive(Drop)]
 pub enum Job {
-    Init { model: Text, opts: Opts },
-    Reach { model: Text, opts: Opts },
-    Check { model: Text, opts: Opts },
+    Init {
+        model: Text,
+        opts: Opts,
+    },
+    Reach {
+        model: Text,
+        opts: Opts,
+    },
+    Check {
+        model: Text,
+        opts: Opts,
+    },
+    Vacuity {
+        model: Text,
+        opts: Opts,
+    },
+    Cover {
+        model: Text,
+        signals: Seq<Text>,
+        opts: Opts,
+    },
 }
 
 impl Job {
@@ -26,9 +44,15 @@ impl Job {
         ensures { result.now ≡ spec.model_name self.now }
     {
         match self {
-            Job::Init { model, opts: _ } => model.as_slice(),
-            Job::Reach { model, opts: _ } => model.as_slice(),
-            Job::Check { model, opts: _ } => model.as_slice(),
+            Job::Init { model, opts: _ }
+            | Job::Reach { model, opts: _ }
+            | Job::Check { model, opts: _ }
+            | Job::Vacuity { model, opts: _ }
+            | Job::Cover {
+                model,
+                signals: _,
+                opts: _,
+            } => model.as_slice(),
         }
     }
 
@@ -37,9 +61,15 @@ impl Job {
         ensures { result ≡ spec.opts_of self.now }
     {
         match self {
-            Job::Init { model: _, opts } => *opts,
-            Job::Reach { model: _, opts } => *opts,
-            Job::Check { model: _, opts } => *opts,
+            Job::Init { model: _, opts }
+            | Job::Reach { model: _, opts }
+            | Job::Check { model: _, opts }
+            | Job::Vacuity { model: _, opts }
+            | Job::Cover {
+                model: _,
+                signals: _,
+                opts,
+            } => *opts,
         }
     }
 }

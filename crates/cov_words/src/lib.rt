@@ -5,6 +5,7 @@ mod brief;
 mod job;
 mod number;
 mod options;
+mod positional;
 mod read;
 mod sort;
 #[cfg(test)]

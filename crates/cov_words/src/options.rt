@@ -28,8 +28,8 @@ fn option_number(default: u32, most: u32, given: Given) -> Option<u32>
 }
 
 /// The numbers of the options.
-pub(crate) fn options(sorted: Brief) -> Option<Opts>
-    ensures { (s : spec.Sorted) → IsBrief sorted.entry s → result ≡ spec.options s }
+pub(crate) fn options(sorted: &Brief) -> Option<Opts>
+    ensures { (s : spec.Sorted) → IsBrief sorted.now s → result ≡ spec.options s }
 {
     let nodes = option_number(DEFAULT_NODES, MOST_NODES, sorted.nodes)?;
     let cubes = option_number(DEFAULT_CUBES, MOST_CUBES, sorted.cubes)?;

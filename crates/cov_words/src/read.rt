@@ -1,27 +1,19 @@
-ghost use Rattle.std.specs.Prelude.{◌≡◌, ◌∷◌, None, Some, IfOk, map, string_bytes};
+ghost use Rattle.std.specs.Prelude.{◌≡◌, ◌∷◌, ℕ, List, None, Some, IfOk, map, string_bytes};
 ghost use Rattle.cov_words.specs.Words as spec;
 ghost use Rattle.cov_words.specs.Words.{job};
-ghost use Rattle.cov_words.specs.Sorting.{IsBrief};
+ghost use Rattle.cov_words.specs.Sorting.{IsBrief, IsGiven, IsPositional};
 
 use crate::brief::{Brief, Given};
 use crate::job::{Job, Opts, WordsFault};
 use crate::options::options;
+use crate::positional::Positional;
 use crate::sort::sort;
-use cov_syntax::{NoMemory, Seq, Text};
+use cov_syntax::{Seq, Text};
 use std::alloc::Global;
 
-/// The bytes of a word.
-fn copy(alloc: Global, word: &[u8]) -> Result<Text, NoMemory>
-    ensures { IfOk result (λ text. text ≡ word.now) }
-{
-    let mut text = Seq::new(alloc);
-    text.extend_from_slice(word)?;
-    Ok(text)
-}
-
-/// The job of a command on a model.
-fn command_job(command: &str, sorted: Brief, model: Text, opts: Opts) -> Option<Job>
-    ensures { (s : spec.Sorted) → IsBrief sorted.entry s → result ≡ spec.command_job command.now s model opts }
+/// The job of a command on a model alone.
+fn model_job(command: &str, cubes: Given, model: Text, opts: Opts) -> Option<Job>
+    ensures { (vs : List (List ℕ)) → IsGiven cubes.entry vs → result ≡ spec.model_job command.now vs model opts }
 {
     if command == "init" {
         return Some(Job::Init { model, opts });
@@ -29,24 +21,49 @@ fn command_job(command: &str, sorted: Brief, model: Text, opts: Opts) -> Option<
     if command == "reach" {
         return Some(Job::Reach { model, opts });
     }
-    if command == "check" && sorted.cubes.is_never() {
+    if !cubes.is_never() {
+        return None;
+    }
+    if command == "check" {
         return Some(Job::Check { model, opts });
+    }
+    if command == "vacuity" {
+        return Some(Job::Vacuity { model, opts });
     }
     None
 }
 
-/// The job of a command and its sorted words.
-fn sorted_job(alloc: Global, command: &str, sorted: Brief) -> Result<Job, WordsFault>
-    ensures ok { (s : spec.Sorted) → IsBrief sorted.entry s → IfOk result (λ j. spec.sorted_job command.now s ≡ Some j) }
-    ensures words { (s : spec.Sorted) → IsBrief sorted.entry s → result ≡ Err WordsFault.Words → spec.sorted_job command.now s ≡ None }
+/// The job of a command on a model and signals.
+fn signals_job(command: &str, model: Text, signals: Seq<Text>, opts: Opts) -> Option<Job>
+    ensures { result ≡ spec.signals_job command.now model signals opts }
 {
-    let Given::Once(model) = sorted.positional else {
-        return Err(WordsFault::Words);
-    };
-    let Some(opts) = options(sorted) else {
-        return Err(WordsFault::Words);
-    };
-    command_job(command, sorted, copy(alloc, model)?, opts).ok_or(WordsFault::Words)
+    if command == "cover" {
+        return Some(Job::Cover {
+            model,
+            signals,
+            opts,
+        });
+    }
+    None
+}
+
+/// The job of a command on its positional words.
+fn command_job(command: &str, words: Positional, cubes: Given, opts: Opts) -> Option<Job>
+    ensures { (s : spec.Sorted) → IsPositional (Some words) s.positional → IsGiven cubes.entry s.cubes → result ≡ spec.command_job command.now s opts }
+{
+    if words.signals.len() == 0 {
+        model_job(command, cubes, words.model, opts)
+    } else {
+        signals_job(command, words.model, words.signals, opts)
+    }
+}
+
+/// The job of a command and its sorted words.
+fn sorted_job(command: &str, sorted: Brief) -> Option<Job>
+    ensures { (s : spec.Sorted) → IsBrief sorted.entry s → result ≡ spec.sorted_job command.now s }
+{
+    let opts = options(&sorted)?;
+    command_job(command, sorted.positional?, sorted.cubes, opts)
 }
 
 /// The job of a command and the words behind it.
@@ -54,10 +71,7 @@ fn job_of(alloc: Global, command: &str, words: &[String]) -> Result<Job, WordsFa
     ensures ok { IfOk result (λ j. spec.job_of (command.now ∷ map string_bytes words.now) ≡ Some j) }
     ensures words { result ≡ Err WordsFault.Words → spec.job_of (command.now ∷ map string_bytes words.now) ≡ None }
 {
-    match sort(words) {
-        Some(sorted) => sorted_job(alloc, command, sorted),
-        None => Err(WordsFault::Words),
-    }
+    sorted_job(command, sort(alloc, words)?).ok_or(WordsFault::Words)
 }
 
 /// The job of the words after the program's name.

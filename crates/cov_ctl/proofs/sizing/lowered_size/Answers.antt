@@ -1,4 +1,4 @@
-use Rattle.std.proofs.Common.{◌≡◌, ◌∙◌, ap, min, ℕ}
+use Rattle.std.proofs.Common.{◌∙◌, ap, min, ℕ}
 use Rattle.cov_ctl.proofs.SizeLemmas.{counted}
 use Rattle.cov_ctl.proofs.sizing.lowered_size.Goals as goal
 

@@ -4,9 +4,10 @@ use Rattle.cov_space.specs.Operations.{complement, union}
 use Rattle.cov_space.specs.Steps.{with_more}
 use Rattle.cov_space.proofs.Calls.{at_behind, at_front, basic_call, err_exit}
 use Rattle.cov_fair.proofs.Calls.{put_or}
+use Rattle.cov_sym.proofs.Exchanging.{basic_above, call_base, settled_last}
 use Rattle.cov_hold.proofs.Forms.{right_implies}
 use Rattle.cov_hold.proofs.Putting.{complement_pairs, union_pairs}
-use Rattle.cov_hold.proofs.Turning.{basic_above, call_base, exchanges_of, settled_last}
+use Rattle.cov_hold.proofs.Turning.{exchanges_of}
 use Rattle.cov_hold.proofs.boolean.imply.Goals as goal
 
 pub returns-in_err-not-clause-err : goal.returns-in_err-not-clause-err
@@ -46,5 +47,5 @@ returns-clause-ok c =
       exchanges = exchanges_of m sys c.settle.new.self n r c.requires.prepared c.requires.above within
           (settled_last s c.or.new.self c.settle.new.self n 1 (z ∷ r ∷ []) within is2 refl c.settle.ensures)
           (union_pairs s.levels z y (complement_pairs s.levels x c.requires.first_pairs) c.requires.second_pairs);
-      right = λ f g h k. right_implies m s.levels f g x y h k;
+      right = λ signal f g h k. right_implies m s.levels signal f g x y h k;
     }

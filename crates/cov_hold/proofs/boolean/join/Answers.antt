@@ -2,9 +2,10 @@ use Rattle.std.proofs.Common.{◌≤◌, ◌+◌, length, List, [], ◌∷◌, B
 use Rattle.cov_space.specs.Sets.{SpaceOf, set_at}
 use Rattle.cov_space.specs.Operations.{union}
 use Rattle.cov_space.proofs.Calls.{basic_call, err_exit}
+use Rattle.cov_sym.proofs.Exchanging.{call_base, settled_last}
 use Rattle.cov_hold.proofs.Forms.{right_or}
 use Rattle.cov_hold.proofs.Putting.{union_pairs}
-use Rattle.cov_hold.proofs.Turning.{call_base, exchanges_of, settled_last}
+use Rattle.cov_hold.proofs.Turning.{exchanges_of}
 use Rattle.cov_hold.proofs.boolean.join.Goals as goal
 
 pub returns-in_err-or-clause-err : goal.returns-in_err-or-clause-err
@@ -28,5 +29,5 @@ returns-clause-ok c =
       set = r;
       exchanges = exchanges_of m sys c.settle.new.self n r c.requires.prepared c.requires.above within
           (settled_last s c.or.new.self c.settle.new.self n 0 (r ∷ []) within c.in_ok-or.ensures.ok.is refl c.settle.ensures) (union_pairs s.levels x y c.requires.first_pairs c.requires.second_pairs);
-      right = λ f g h k. right_or m s.levels f g x y h k;
+      right = λ signal f g h k. right_or m s.levels signal f g x y h k;
     }

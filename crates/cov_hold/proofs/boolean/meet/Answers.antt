@@ -2,9 +2,10 @@ use Rattle.std.proofs.Common.{◌≤◌, ◌+◌, length, List, [], ◌∷◌, B
 use Rattle.cov_space.specs.Sets.{SpaceOf, set_at}
 use Rattle.cov_space.specs.Operations.{intersection}
 use Rattle.cov_space.proofs.Calls.{basic_call, err_exit}
+use Rattle.cov_sym.proofs.Exchanging.{call_base, settled_last}
 use Rattle.cov_hold.proofs.Forms.{right_and}
 use Rattle.cov_hold.proofs.Putting.{intersection_pairs}
-use Rattle.cov_hold.proofs.Turning.{call_base, exchanges_of, settled_last}
+use Rattle.cov_hold.proofs.Turning.{exchanges_of}
 use Rattle.cov_hold.proofs.boolean.meet.Goals as goal
 
 pub returns-in_err-and-clause-err : goal.returns-in_err-and-clause-err
@@ -28,5 +29,5 @@ returns-clause-ok c =
       set = r;
       exchanges = exchanges_of m sys c.settle.new.self n r c.requires.prepared c.requires.above within
           (settled_last s c.and.new.self c.settle.new.self n 0 (r ∷ []) within c.in_ok-and.ensures.ok.is refl c.settle.ensures) (intersection_pairs s.levels x y c.requires.first_pairs c.requires.second_pairs);
-      right = λ f g h k. right_and m s.levels f g x y h k;
+      right = λ signal f g h k. right_and m s.levels signal f g x y h k;
     }

@@ -1,9 +1,10 @@
 use Rattle.std.proofs.Common.{◌≤◌, length, List, [], ◌∷◌, Bool, refl, arith}
 use Rattle.cov_space.specs.Sets.{SpaceOf, set_at}
 use Rattle.cov_space.specs.Operations.{complement}
+use Rattle.cov_sym.proofs.Exchanging.{settled_last}
 use Rattle.cov_hold.proofs.Forms.{right_not}
 use Rattle.cov_hold.proofs.Putting.{complement_pairs}
-use Rattle.cov_hold.proofs.Turning.{exchanges_of, settled_last}
+use Rattle.cov_hold.proofs.Turning.{exchanges_of}
 use Rattle.cov_hold.proofs.boolean.negate.Goals as goal
 
 pub returns-clause-ok : goal.returns-clause-ok
@@ -19,5 +20,5 @@ returns-clause-ok c =
       set = r;
       exchanges = exchanges_of m sys c.settle.new.self n r c.requires.prepared c.requires.above within
           (settled_last s c.not.new.self c.settle.new.self n 0 (r ∷ []) within c.in_ok-not.ensures.ok.is refl c.settle.ensures) (complement_pairs s.levels x c.requires.pairs);
-      right = λ f h. right_not m s.levels f x h;
+      right = λ signal f h. right_not m s.levels signal f x h;
     }

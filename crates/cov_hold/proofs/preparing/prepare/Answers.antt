@@ -9,3 +9,6 @@ fair-requires-clause-fairness c = built_fairness c.args.m.now c.args.sys.now c.r
 pub returns-clause-ok : goal.returns-clause-ok
 returns-clause-ok c =
     on_ok_map c.fair.result _ _ (λ q. prepared_is c.args.m.now c.args.sys.now c.fair.new.sp c.requires.built c.requires.alone q) c.fair.ensures.ok
+
+pub returns-clause-puts : goal.returns-clause-puts
+returns-clause-puts c = on_ok_map c.fair.result _ _ (λ q. record { set = q.set; puts = q.puts }) c.fair.ensures.ok

@@ -14,5 +14,5 @@ returns-clause-err g c =
     let told = g.F.Files.told c.args.files.now in
     let file = subst (λ (name : List ℕ). IsFile told name (Some c.in-Ok.text)) c.model.ensures c.in-Ok.ensures.bytes in
     refusal-unread told _ _ c.args.job.now _ _ c.in-Ok.text c.in-Err.reason c.unread.result file
-    (subst (λ (t : List ℕ). IsUnread t c.in-Err.reason c.unread.result) c.as_slice-in-Err.ensures c.unread.ensures)
+    (subst (λ (t : List ℕ). IsUnread c.args.job.now t c.in-Err.reason c.unread.result) c.as_slice-in-Err.ensures c.unread.ensures)
     (subst (λ (t : List ℕ). IsTextStop c.args.job.now t c.args.meter.now c.report_on_text.new.meter c.in-Err.reason) c.as_slice.ensures c.in-Err.ensures.err)

@@ -1,12 +1,10 @@
-use Rattle.cov_top.proofs.ReadLemmas.{text-report, text-stop}
+use Rattle.cov_top.proofs.ReadLemmas.{stop-exit, text-report, text-stop}
 use Rattle.cov_top.proofs.program.report_on_text.Goals as goal
 
 pub returns-clause-ok : goal.returns-clause-ok
-returns-clause-ok c =
-    let read = c.in_ok-accepted.ensures.ok in
-    text-report _ _ c.in_ok-accepted.accepted read c.job_report.result (c.job_report.ensures.ok read.program read.small)
+returns-clause-ok c = text-report c.args.job.now c.args.text.now _ c.in_ok-model.ensures.ok _ _ c.in_ok-job_report.ensures.ok
 
-pub returns-clause-err : goal.returns-clause-err
-returns-clause-err c =
-    let read = c.in_ok-accepted.ensures.ok in
-    text-stop _ _ c.in_ok-accepted.accepted read _ _ c.job_report.result (c.job_report.ensures.err read.program read.small)
+pub returns-in_err-job_report-clause-err : goal.returns-in_err-job_report-clause-err
+returns-in_err-job_report-clause-err c =
+    stop-exit c.from_residual-in_err-job_report.result _ c.in_err-job_report.field-0.0 c.from_residual-in_err-job_report.ensures.1
+    (text-stop c.args.job.now c.args.text.now _ c.in_ok-model.ensures.ok _ _ _ c.in_err-job_report.ensures.err)

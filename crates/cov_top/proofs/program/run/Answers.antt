@@ -1,5 +1,6 @@
 use Rattle.cov_words.specs.Words.{job}
-use Rattle.cov_top.proofs.CompleteLemmas.{refusal-complete, refusal-missing, report-complete}
+use Rattle.cov_top.proofs.CompleteLemmas.{refusal-complete, refusal-missing, refusal-unknown, report-complete}
+use Rattle.cov_top.proofs.AskedLemmas.{unknown-report}
 use Rattle.cov_top.proofs.NodesLemmas.{ample-short}
 use Rattle.cov_top.proofs.RunLemmas.{accepted-refusal, refused-report, short-refusal}
 use Rattle.cov_top.proofs.program.run.Goals as goal
@@ -11,8 +12,7 @@ returns-in-Ok-clause-refused g c = λ h.
 
 pub returns-in-Ok-clause-complete : goal.returns-in-Ok-clause-complete
 returns-in-Ok-clause-complete g c = λ ample read_well wrote_well.
-    report-complete (g.F.Files.told c.args.files.now) (job c.args.words.now) c.in-Ok.report.passes c.in-Ok.report.text _ _ c.put_report.result c.in-Ok.ensures.ok
-    c.put_report.ensures.which (λ e. (c.put_report.ensures.fails e).0) (λ e. (c.put_report.ensures.part e).1) ample wrote_well
+    report-complete _ _ c.put_report.result c.put_report.ensures.which (λ e. (c.put_report.ensures.part e).1) wrote_well
 
 pub returns-in-Err-clause-missing : goal.returns-in-Err-clause-missing
 returns-in-Err-clause-missing g c = λ h. refusal-missing (g.F.Files.told c.args.files.now) _ _ (job c.args.words.now) _ _ c.in-Err.refusal.status c.in-Err.ensures.err.cause h
@@ -27,3 +27,11 @@ returns-in-Err-clause-enough g c = λ ample full e.
 pub returns-in-Err-clause-complete : goal.returns-in-Err-clause-complete
 returns-in-Err-clause-complete g c = λ ample read_well wrote_well.
     refusal-complete (g.F.Files.told c.args.files.now) _ _ (job c.args.words.now) _ _ c.in-Err.refusal.status c.in-Err.ensures.err.cause ample read_well
+
+pub returns-in-Ok-clause-unknown : goal.returns-in-Ok-clause-unknown
+returns-in-Ok-clause-unknown g c = λ a unknown calm.
+    absurd (unknown-report (g.F.Files.told c.args.files.now) (job c.args.words.now) a c.in-Ok.report.passes c.in-Ok.report.text unknown c.in-Ok.ensures.ok)
+
+pub returns-in-Err-clause-unknown : goal.returns-in-Err-clause-unknown
+returns-in-Err-clause-unknown g c = λ a unknown calm.
+    refusal-unknown (g.F.Files.told c.args.files.now) _ _ (job c.args.words.now) _ _ a c.in-Err.refusal.status c.in-Err.ensures.err.cause unknown calm

@@ -2,6 +2,7 @@ use Rattle.std.proofs.Common.{◌≡◌, ◌≤◌, List, length, take, rules, a
 use Rattle.std.proofs.lemmas.List.{with_items_is}
 use Rattle.cov_dd.specs.declared.node.Part.{Part}
 use Rattle.cov_dd.specs.Nodes.{TableOf, IsTable}
+use Rattle.cov_dd.specs.Chains.{IsChained}
 use Rattle.cov_dd.specs.Reached.{AreGathered}
 use Rattle.cov_dd.proofs.ReachLemmas.{collected}
 use Rattle.cov_dd.proofs.SizeLemmas.{collected_size}
@@ -17,8 +18,10 @@ invariant_of-self c =
     let old : IsTable c.self.inside.levels c.as_mut_slice.result.now = subst (λ (x : List Part). IsTable c.self.inside.levels x) (sym first) c.self.invariant.table in
     record {
       table = subst (λ (x : List Part). IsTable c.self.inside.levels x) (sym items) (moved_table c.self.inside.levels c.as_mut_slice.result.now (take c.gather-kept.result c.gather-kept.new.nodes) g.marks g.places g.are old);
+      chained = subst (λ (x : List Part). IsChained x c.rebuild.new.self) c.as_slice.ensures.value c.rebuild.ensures.chained;
       within = search rules;
       room = search rules;
+      chain_room = search rules;
       small = c.self.invariant.small;
     }
 

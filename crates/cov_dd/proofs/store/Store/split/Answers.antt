@@ -48,3 +48,9 @@ returns-else-node-level c =
     let level : c.index-node.result.now.level ≡ level_of c.args.self.now.levels c.args.self.now.nodes (Inner c.in-Inner.i) = ap (λ (n : Part). n.level) r.is in
     let above : c.args.level ≤ level_of c.args.self.now.levels c.args.self.now.nodes (Inner c.in-Inner.i) = subst (λ (x : Ref). c.args.level ≤ level_of c.args.self.now.levels c.args.self.now.nodes x) r.names c.requires.above in
     above_level _ _ _ _ _ r (omega arith)
+
+pub returns-in-Constant : goal.returns-in-Constant
+returns-in-Constant c =
+    let table : IsTable c.args.self.now.levels c.args.self.now.nodes = subst (λ (x : TableOf). IsTable x.levels x.nodes) c.self.view_is c.self.invariant.table in
+    let below : c.args.level < level_of c.args.self.now.levels c.args.self.now.nodes c.args.f = subst (λ (x : Ref). c.args.level < level_of c.args.self.now.levels c.args.self.now.nodes x) (sym c.in-Constant.is) c.requires.level in
+    split_skip c.args.self.now table c.args.level c.args.f c.requires.live below

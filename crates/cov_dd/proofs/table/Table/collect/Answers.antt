@@ -6,5 +6,5 @@ use Rattle.cov_dd.proofs.table.Table.collect.Goals as goal
 
 pub returns-clause-held : goal.returns-clause-held
 returns-clause-held c =
-    let len : length c.collect.new.keep ≡ c.keep.inside.items.len = search rules in
-    subst (λ (x : List Ref). OnOk c.collect.result (SizeIsNeed c.collect.new.self x)) (sym (with_items_is c.keep.inside.items c.collect.new.keep len)) c.collect.ensures.held
+    let len : length c.collect_slice.new.keep ≡ c.keep.inside.items.len = search rules in
+    subst (λ (x : List Ref). OnOk c.collect_slice.result (SizeIsNeed c.collect_slice.new.self x)) (sym (with_items_is c.keep.inside.items c.collect_slice.new.keep len)) c.collect_slice.ensures.held

@@ -1,0 +1,3 @@
+pub mod Failing
+pub mod Room
+pub mod Standing

@@ -1,0 +1,6 @@
+//! Verdicts of formulas.
+#![tactic(auto)]
+
+mod passing;
+
+pub use passing::verdict;

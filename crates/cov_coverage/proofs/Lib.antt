@@ -1,0 +1,4 @@
+pub mod Naming
+pub mod Unknown
+pub mod Standing
+pub mod Writing

@@ -1,0 +1,5 @@
+pub mod HeadLemmas
+pub mod SectionLemmas
+pub mod StatesLemmas
+pub mod Questions
+pub mod Faults

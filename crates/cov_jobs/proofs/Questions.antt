@@ -1,0 +1,26 @@
+-- Lemmas on what a job asks of a model that does not have it.
+use Rattle.std.proofs.Common.{◌≡◌, ℕ, Bool, List, ap}
+use Rattle.cov_model.specs.declared.model.Model.{Model}
+use Rattle.cov_coverage.proofs.Unknown.{named_known, one_unknown}
+use Rattle.cov_words.specs.declared.job.Job.{Job}
+use Rattle.cov_words.specs.declared.job.Job.TheVariants.{Init, Reach, Check, Vacuity, Cover}
+use Rattle.cov_jobs.specs.declared.fault.AskFault.{AskFault}
+use Rattle.cov_jobs.specs.declared.fault.AskFault.TheVariants.{UnknownSignal}
+use Rattle.cov_jobs.specs.Faults.{IsAsked}
+use Rattle.cov_jobs.specs.Jobs.{IsReportOn}
+
+-- where the model lacks a signal there is no report
+pub unreported : (m : Model) (j : Job) (a : AskFault) (passes : Bool) (text : List ℕ) → IsAsked m j a → IsReportOn j m passes text → ⊥
+unreported m (Init name opts) a passes text asked r = asked
+unreported m (Reach name opts) a passes text asked r = asked
+unreported m (Check name opts) a passes text asked r = asked
+unreported m (Vacuity name opts) a passes text asked r = asked
+unreported m (Cover name signals opts) (UnknownSignal place) passes text asked r = named_known m signals r.0 place r.1 asked
+
+-- one fault alone is told of a question
+pub one_fault : (m : Model) (j : Job) (p q : AskFault) → IsAsked m j p → IsAsked m j q → p ≡ q
+one_fault m (Init name opts) p q a b = absurd a
+one_fault m (Reach name opts) p q a b = absurd a
+one_fault m (Check name opts) p q a b = absurd a
+one_fault m (Vacuity name opts) p q a b = absurd a
+one_fault m (Cover name signals opts) (UnknownSignal p) (UnknownSignal q) a b = ap UnknownSignal (one_unknown m signals p q a b)

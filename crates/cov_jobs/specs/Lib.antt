@@ -1,0 +1,6 @@
+pub mod Coverage
+pub mod Faults
+pub mod Jobs
+pub mod Occurrences
+pub mod Report
+pub mod Specifications

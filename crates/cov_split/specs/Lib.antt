@@ -1,5 +1,0 @@
-pub mod States
-pub mod Tests
-pub mod StateSets
-pub mod Structures
-pub mod Turns

@@ -1,0 +1,6 @@
+//! Vacuity of one occurrence of a formula.
+#![tactic(auto)]
+
+mod deciding;
+
+pub use deciding::vacuous;
