@@ -1,7 +1,11 @@
+ghost use Rattle.std.specs.Prelude.{◌≡◌, IfOk};
+ghost use Rattle.cov_families.specs.Families.{IsTable};
+
 use crate::{Table, index_of, put_combined, put_read};
 use cov_fields::Field;
 use cov_space::{Layer, Space};
-use cov_syntax::Seq;
+use cov_syntax::{NoMemory, Seq};
+use std::alloc::Global;
 use std::test::Fail;
 
 /// The first bit on the layer of present states.
@@ -29,16 +33,24 @@ fn each_number_is_sent_to_the_other(rt: HostRuntime) -> Result<(), Fail> {
     Ok(())
 }
 
-#[test]
-fn two_bits_are_both_set_or_one_alone(rt: HostRuntime) -> Result<(), Fail> {
-    let mut sp = Space::make(rt.alloc(), 6, 640, 18)?;
-    let mut targets = Seq::new(rt.alloc());
+/// The sum of two bits, where it is 0 or 1.
+fn sums(alloc: Global) -> Result<Table, NoMemory>
+    ensures table { IfOk result (λ t. IsTable 6 t 2) }
+    ensures columns { IfOk result (λ t. t.columns ≡ 2) }
+{
+    let mut targets = Seq::new(alloc);
     targets.extend_from_slice(&[None, Some(0), Some(0), Some(1)])?;
-    let table = Table {
+    Ok(Table {
         rows: 2,
         columns: 2,
         targets,
-    };
+    })
+}
+
+#[test]
+fn two_bits_are_both_set_or_one_alone(rt: HostRuntime) -> Result<(), Fail> {
+    let mut sp = Space::make(rt.alloc(), 6, 640, 18)?;
+    let table = sums(rt.alloc())?;
     put_read(&mut sp, index_of(2), FIRST, &[Some(0), Some(1)])?;
     put_read(&mut sp, index_of(2), SECOND, &[Some(0), Some(1)])?;
     put_combined(&mut sp, 0, 1, &table, 2)?;
