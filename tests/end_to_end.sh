@@ -155,6 +155,24 @@ stored 1 retry cover answered wants_odd
 stored 1 semaphore cover a.works
 stored 1 watchdog cover fires hangs
 
+# replays: the evidence of an example, one part wrong at a time, and both files read before either is judged
+cp examples/door.smv "$place/door"
+cp examples/door.evidence "$place/lasso"
+expect 'evidence of an example' 0 'accepted\n' '' replay door lasso
+sed 's/^spec 2/spec 4/' "$place/lasso" >"$place/other"
+expect 'evidence of no specification' 1 'rejected: NoSuchSpec\n' '' replay door other
+sed 's/^at open=TRUE,button=FALSE/at open=FALSE,button=FALSE/' "$place/lasso" >"$place/other"
+expect 'evidence of a state that is not on the lasso' 1 'rejected: NotAt\n' '' replay door other
+sed 's/^spec 2/spec 3/' "$place/lasso" >"$place/other"
+expect 'evidence of another specification' 1 'rejected: NotRefuted\n' '' replay door other
+head -n 8 "$place/lasso" >"$place/other"
+expect 'evidence without its end' 3 '' 'evidence: Cut at line 9\n' replay door other
+expect 'evidence that is not there' 4 '' 'read failed\n' replay door nothing
+expect 'a replay of an empty model and no evidence' 4 '' 'read failed\n' replay empty nothing
+expect 'a replay of an empty model' 3 '' 'model: Syntax at 1:1\n' replay empty lasso
+expect 'a replay with an option' 2 '' "$usage" replay door lasso --nodes 5
+expect 'a replay without evidence' 2 '' "$usage" replay door
+
 # Six variables of which an odd number is true: each of the 32 states is a cube of its own.
 odd() { printf '(%s) & !(%s) | !(%s) & (%s)' "$1" "$2" "$1" "$2"; }
 parity=a

@@ -3,7 +3,8 @@
 
 usage: run.py PROGRAM [MODELS [SEED]]
 
-The last line counts the runs that agree. A run that does not is printed with its model."""
+The last line counts the runs that agree. A run that does not is printed with its model. A run has a minute to end, and some
+model has to be accepted, so that a program that refuses every text does not pass."""
 
 import random
 import subprocess
@@ -15,6 +16,9 @@ from random_models import RandomModel
 from reports import Report
 
 SHORT_BUDGETS = [1, 3, 10, 30, 100, 300]
+
+# how long a run may take, in seconds
+LONGEST = 60
 
 
 def jobs(rng, report, signals):
@@ -31,7 +35,10 @@ def jobs(rng, report, signals):
 
 
 def ran(words):
-    found = subprocess.run(words, capture_output=True, text=True)
+    try:
+        found = subprocess.run(words, capture_output=True, text=True, timeout=LONGEST)
+    except subprocess.TimeoutExpired:
+        return "", "no end", None
     return found.stdout, found.stderr, found.returncode
 
 
@@ -72,6 +79,10 @@ def main():
     with tempfile.TemporaryDirectory() as place:
         found = [compare(program, seed, f"{place}/model") for seed in range(first, first + models)]
     agree, differ = (sum(counts) for counts in zip(*found))
+    accepted = sum(counts != (0, 0) for counts in found)
+    if models and not accepted:
+        differ += 1
+        print(f"{accepted} of {models} models are accepted")
     print(f"{agree} passed, {differ} failed")
     return 1 if differ else 0
 

@@ -4,8 +4,6 @@
 mod laws;
 mod part;
 mod plan;
-#[cfg(test)]
-mod tests;
 
 pub use laws::{
     codes_and_states, places_in_rows, rows_and_codes, typed_states_have_places, widths_are_least,

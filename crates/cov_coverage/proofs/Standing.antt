@@ -17,7 +17,8 @@ use Rattle.cov_model.specs.declared.model.Signal.{Signal}
 use Rattle.cov_model.specs.Paths.{IsReachable}
 use Rattle.cov_model.specs.States.{State, is_typed}
 use Rattle.cov_nodes.specs.Points.{state_of}
-use Rattle.cov_pair.specs.Covering.{IsCoveredState, PutsCovered}
+use Rattle.cov_pair.specs.Covering.{PutsCovered}
+use Rattle.cov_claims.specs.Covering.{IsCoveredState}
 use Rattle.cov_pair.proofs.Covers.{told_apart}
 use Rattle.cov_space.specs.declared.fault.SpaceFault.{SpaceFault}
 use Rattle.cov_space.specs.declared.fault.SpaceFault.TheVariants as fault

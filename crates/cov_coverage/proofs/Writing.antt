@@ -8,7 +8,7 @@ use Rattle.cov_coverage.proofs.Standing.{Stands, states_are}
 use Rattle.cov_cubes.specs.Models.{states_of_slot}
 use Rattle.cov_logic.specs.Formula.{Formula}
 use Rattle.cov_model.specs.declared.model.Model.{Model}
-use Rattle.cov_pair.specs.Covering.{IsCoveredState}
+use Rattle.cov_claims.specs.Covering.{IsCoveredState}
 use Rattle.cov_report.specs.SpecLines.{signal_line}
 use Rattle.cov_sym.specs.declared.sys.Sys.{Sys}
 use Rattle.cov_syntax.specs.declared.tree.Expr.{Expr}

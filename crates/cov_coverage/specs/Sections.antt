@@ -9,7 +9,7 @@ use Rattle.cov_model.specs.declared.model.Model.{Model}
 use Rattle.cov_model.specs.declared.model.Signal.{Signal}
 use Rattle.cov_model.specs.Paths.{IsReachable}
 use Rattle.cov_model.specs.States.{State, is_typed}
-use Rattle.cov_pair.specs.Covering.{IsCoveredState}
+use Rattle.cov_claims.specs.Covering.{IsCoveredState}
 use Rattle.cov_report.specs.Lines.{set_lines}
 use Rattle.cov_report.specs.SpecLines.{signal_line}
 use Rattle.cov_show.specs.Cubes.{shown_vars}

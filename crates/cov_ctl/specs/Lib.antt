@@ -1,5 +1,6 @@
 pub mod Constants
 pub mod Formulas
+pub mod Fragments
 pub mod Lowered
 pub mod Occurrences
 pub mod Replacing

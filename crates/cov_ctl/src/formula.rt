@@ -7,7 +7,6 @@ use cov_syntax::{Expr, Node, Span, Value};
 use sqlite_items::Boxed;
 
 /// A formula of CTL over fair paths, after Clarke and Emerson (1981). An atom is an expression without CTL operators.
-#[derive(Drop)]
 pub enum Formula {
     Atom(Expr),
     Not(Boxed<Formula>),
@@ -22,6 +21,32 @@ pub enum Formula {
     Af(Boxed<Formula>),
     Ag(Boxed<Formula>),
     Au(Boxed<Formula>, Boxed<Formula>),
+}
+
+/// Written out, so that a formula that goes out of scope gives a proof one goal and not thirteen.
+impl Drop for Formula {
+    fn drop(self) {
+        match self {
+            Formula::Atom(_expr) => {}
+            Formula::Not(part)
+            | Formula::Ex(part)
+            | Formula::Ef(part)
+            | Formula::Eg(part)
+            | Formula::Ax(part)
+            | Formula::Af(part)
+            | Formula::Ag(part) => {
+                let _part = part.into_inner();
+            }
+            Formula::And(left, right)
+            | Formula::Or(left, right)
+            | Formula::Implies(left, right)
+            | Formula::Eu(left, right)
+            | Formula::Au(left, right) => {
+                let _left = left.into_inner();
+                let _right = right.into_inner();
+            }
+        }
+    }
 }
 
 /// The atom TRUE or FALSE. It has no place in a text.

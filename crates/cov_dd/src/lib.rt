@@ -20,6 +20,3 @@ pub use node::{Part, Ref};
 pub use operations::Op;
 pub use refs::Refs;
 pub use table::Table;
-
-#[cfg(test)]
-mod tests;

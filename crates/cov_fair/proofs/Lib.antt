@@ -3,4 +3,3 @@ pub mod Calls
 pub mod Leading
 pub mod Turning
 pub mod Operating
-pub mod Rising

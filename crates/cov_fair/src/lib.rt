@@ -8,6 +8,3 @@ mod operators;
 mod until;
 
 pub use operators::{eg, eu, ex, fair};
-
-#[cfg(test)]
-mod tests;

@@ -9,8 +9,6 @@ mod listed;
 mod read;
 mod rows;
 mod table;
-#[cfg(test)]
-mod tests;
 
 pub use choose::{put_choice, put_if};
 pub use combine::put_combined;

@@ -4,8 +4,6 @@
 mod field;
 mod laws;
 mod sets;
-#[cfg(test)]
-mod tests;
 
 pub use field::{Field, field_of};
 pub use laws::{codes_hold_places, fields_are_apart, written_is_held};

@@ -1,11 +1,13 @@
-//! Whole runs from the text of a model to its flat model or its first fault, and to its signals.
+//! Whole runs from the text of a model to its modules, its flat model or its first fault, its signals and what it means.
 #![tactic(auto)]
 
 #[cfg(test)]
 mod faults;
 #[cfg(test)]
+mod instances;
+#[cfg(test)]
 mod models;
 #[cfg(test)]
-mod reading;
+mod paths;
 #[cfg(test)]
 mod signals;

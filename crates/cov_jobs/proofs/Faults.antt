@@ -1,5 +1,5 @@
 -- Lemmas on why a job has no report.
-use Rattle.std.proofs.Common.{◌≡◌, ℕ, List, Result, Ok, Err, IfErr, refl}
+use Rattle.std.proofs.Common.{ℕ, List, Result, Ok, Err, IfErr, refl}
 use Rattle.cov_model.specs.declared.model.Model.{Model}
 use Rattle.cov_space.specs.declared.fault.SpaceFault.{SpaceFault}
 use Rattle.cov_space.specs.declared.fault.SpaceFault.TheVariants as space

@@ -1,8 +1,8 @@
 -- No initial state starts a fair lasso exactly where no pair is both initial and good.
-use Rattle.std.proofs.Common.{◌≡◌, ℕ, ◌*◌, ◌+◌, ◌&&◌, List, [], ◌∷◌, Bool, true, false, not, IsTrue, ◌↔◌, length, refl, sym, ◌∙◌, ap, subst, subst₂, arith}
+use Rattle.std.proofs.Common.{◌≡◌, ℕ, ◌*◌, List, [], ◌∷◌, Bool, true, false, not, IsTrue, ◌↔◌, length, refl, sym, ◌∙◌, ap, subst, subst₂, arith}
 use Rattle.std.proofs.lemmas.Bool.{and_parts, and_from, false≢true}
 use Rattle.cov_logic.specs.FairLasso.{StartsFair}
-use Rattle.cov_bits.specs.Layout.{are_places, bits, sizes}
+use Rattle.cov_bits.specs.Layout.{bits, sizes}
 use Rattle.cov_model.specs.declared.model.Model.{Model}
 use Rattle.cov_model.specs.Paths.{structure}
 use Rattle.cov_model.specs.States.{State, is_initial, is_state}

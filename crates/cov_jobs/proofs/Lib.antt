@@ -3,3 +3,4 @@ pub mod SectionLemmas
 pub mod StatesLemmas
 pub mod Questions
 pub mod Faults
+pub mod Replaying

@@ -1,5 +1,5 @@
 -- Lemmas on texts that are put piece by piece.
-use Rattle.std.proofs.Common.{◌≡◌, ℕ, suc, ◌+◌, ◌&&◌, Bool, true, List, [], ◌++◌, Option, Some, Result, Ok, Err, OnOk, is_err, IsTrue, ◌↔◌, false, refl, sym, subst, ap, ◌∙◌, append_assoc, append-nil, length, length-append, ◌≤◌, slice_get, arith}
+use Rattle.std.proofs.Common.{◌≡◌, ℕ, suc, ◌+◌, ◌&&◌, Bool, true, List, [], ◌++◌, Some, Result, Ok, Err, OnOk, is_err, IsTrue, ◌↔◌, false, refl, sym, subst, ap, ◌∙◌, append_assoc, append-nil, length, length-append, ◌≤◌, slice_get, arith}
 use Rattle.std.proofs.lemmas.Bool.{false≢true}
 use Rattle.cov_syntax.specs.declared.error.NoMemory.{NoMemory}
 use Rattle.cov_logic.specs.Occurrence.{occurrence}
@@ -8,8 +8,8 @@ use Rattle.cov_report.specs.SpecLines.{occurrence_line, spec_line}
 use Rattle.cov_syntax.specs.declared.tree.Expr.{Expr}
 use Rattle.cov_ctl.specs.Lowered.{lowered}
 use Rattle.cov_model.specs.Flat.{IsFlat, conditions_of}
-use Rattle.cov_check.specs.Passing.{IsPassing}
-use Rattle.cov_vac.specs.Vacuous.{IsVacuousIn}
+use Rattle.cov_claims.specs.Truths.{IsPassing}
+use Rattle.cov_claims.specs.Vacuous.{IsVacuousIn}
 use Rattle.cov_model.specs.declared.model.Model.{Model}
 use Rattle.cov_jobs.specs.declared.detail.Detail.{Detail}
 use Rattle.cov_ctl.specs.declared.formula.Formula as ctl

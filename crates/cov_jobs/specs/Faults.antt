@@ -10,7 +10,7 @@ use Rattle.cov_coverage.specs.declared.names.NameFault.TheVariants as name
 use Rattle.cov_coverage.specs.Names.{IsFirstUnknown}
 use Rattle.cov_words.specs.Words.{opts_of}
 use Rattle.cov_words.specs.declared.job.Job.{Job}
-use Rattle.cov_words.specs.declared.job.Job.TheVariants.{Init, Reach, Check, Vacuity, Cover}
+use Rattle.cov_words.specs.declared.job.Job.TheVariants.{Init, Reach, Check, Vacuity, Cover, Replay}
 use Rattle.cov_jobs.specs.declared.fault.AskFault.{AskFault}
 use Rattle.cov_jobs.specs.declared.fault.AskFault.TheVariants.{UnknownSignal}
 use Rattle.cov_jobs.specs.declared.fault.JobFault.{JobFault}
@@ -33,6 +33,7 @@ IsAsked m (Reach name opts) a = ⊥
 IsAsked m (Check name opts) a = ⊥
 IsAsked m (Vacuity name opts) a = ⊥
 IsAsked m (Cover name signals opts) (UnknownSignal place) = IsFirstUnknown m signals place
+IsAsked m (Replay name evidence) a = ⊥
 
 -- why a job has no report on a model, and what the meter was told; nodes run out only where the model has what is asked of it
 abbrev pub IsJobFault : Job → Model → MeterOf → MeterOf → JobFault → Type 0

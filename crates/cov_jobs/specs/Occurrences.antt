@@ -5,7 +5,7 @@ use Rattle.cov_model.specs.declared.model.Model.{Model}
 use Rattle.cov_ctl.specs.declared.formula.Formula as ctl
 use Rattle.cov_ctl.specs.Formulas.{formula_of}
 use Rattle.cov_report.specs.SpecLines.{occurrence_line}
-use Rattle.cov_vac.specs.Vacuous.{IsVacuousIn}
+use Rattle.cov_claims.specs.Vacuous.{IsVacuousIn}
 
 -- the line of an occurrence: its number, whether it is vacuous, and the subformula
 pub record IsOccurrenceLine (m : Model) (f : ctl.Formula) (number : ℕ) (text : List ℕ) : Type 0 where

@@ -9,7 +9,7 @@ use Rattle.cov_ctl.specs.declared.formula.Formula as ctl
 use Rattle.cov_ctl.specs.Formulas.{formula_of}
 use Rattle.cov_ctl.specs.Lowered.{lowered}
 use Rattle.cov_coverage.specs.Sections.{AreSignalSections}
-use Rattle.cov_check.specs.Passing.{IsPassing}
+use Rattle.cov_claims.specs.Truths.{IsPassing}
 use Rattle.cov_ctl.specs.Sizes.{size}
 use Rattle.cov_report.specs.declared.note.Note.TheVariants.{NotMeasured}
 use Rattle.cov_report.specs.SpecLines.{note_line, spec_line}

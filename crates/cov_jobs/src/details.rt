@@ -1,7 +1,7 @@
 ghost use Rattle.std.specs.Prelude.{◌≡◌, ◌↔◌, ◌++◌, ◌+◌, ◌≤◌, length, IsTrue, IfErr, OnOk};
 ghost use Rattle.cov_ctl.specs.Sizes.{size};
 ghost use Rattle.cov_formulas.specs.Formulas.{IsFormulaOf};
-ghost use Rattle.cov_check.specs.Passing.{IsPassing};
+ghost use Rattle.cov_claims.specs.Truths.{IsPassing};
 ghost use Rattle.cov_coverage.specs.Puts.{Puts};
 ghost use Rattle.cov_hold.specs.Prepared.{IsPrepared};
 ghost use Rattle.cov_report.specs.declared.note.Note.TheVariants.{NotMeasured};

@@ -7,6 +7,7 @@ mod details;
 mod fault;
 mod head;
 mod occurrences;
+mod replay;
 mod report;
 mod sections;
 mod specifications;
@@ -14,4 +15,5 @@ mod states;
 
 pub use detail::Detail;
 pub use fault::{AskFault, JobFault};
+pub use replay::replay_report;
 pub use report::{Report, job_report};

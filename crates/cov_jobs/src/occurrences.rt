@@ -2,7 +2,7 @@ ghost use Rattle.std.specs.Prelude.{◌≡◌, ◌≤◌, ◌+◌, length, OnOk,
 ghost use Rattle.cov_logic.specs.Occurrence.{IsOccurrence};
 ghost use Rattle.cov_ctl.specs.Formulas.{formula_of};
 ghost use Rattle.cov_ctl.specs.Sizes as sizes;
-ghost use Rattle.cov_check.specs.Passing.{IsPassing};
+ghost use Rattle.cov_claims.specs.Truths.{IsPassing};
 ghost use Rattle.cov_formulas.specs.Formulas.{IsFormulaOf};
 ghost use Rattle.cov_hold.specs.Prepared.{IsPrepared};
 ghost use Rattle.cov_space.specs.Answers.{IsCallFault};

@@ -1,6 +1,7 @@
-ghost use Rattle.std.specs.Prelude.{◌≡◌, IfOk, IfErr, OnOk};
+ghost use Rattle.std.specs.Prelude.{◌≡◌, None, IfOk, IfErr, OnOk};
 ghost use Rattle.cov_jobs.specs.Faults.{IsJobFault};
 ghost use Rattle.cov_jobs.specs.Jobs.{IsReportOn};
+ghost use Rattle.cov_words.specs.Words.{evidence_name};
 
 use crate::coverage::coverage_report;
 use crate::detail::Detail;
@@ -20,13 +21,14 @@ pub struct Report {
     pub passes: bool,
 }
 
-/// The report of a job on a model, made whole. The meter is told of a refusal.
+/// The report of a job that is no replay on a model, made whole. The meter is told of a refusal.
 pub fn job_report(
     alloc: Global,
     job: &Job,
     m: &Checked,
     meter: &mut Meter,
 ) -> Result<Report, JobFault>
+    requires { evidence_name job.now ≡ None }
     ensures ok { IfOk result (λ r. IsReportOn job.now m.now r.passes r.text) }
     ensures untold { OnOk result (meter.new ≡ meter.old) }
     ensures err { IfErr result (IsJobFault job.now m.now meter.old meter.new) }
@@ -45,5 +47,9 @@ pub fn job_report(
             signals,
             opts,
         } => coverage_report(alloc, m, signals, *opts, meter),
+        Job::Replay {
+            model: _,
+            evidence: _,
+        } => unreachable!(),
     }
 }

@@ -8,8 +8,6 @@ mod kind;
 mod operators;
 mod remainder;
 mod table;
-#[cfg(test)]
-mod tests;
 mod values;
 
 pub use asks::Asks;

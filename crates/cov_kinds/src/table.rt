@@ -11,10 +11,19 @@ use std::alloc::Global;
 use std::marker::Model;
 
 /// The kinds of variables and DEFINEs, which contracts see as `Kinds` of the model's definitions.
-#[derive(Drop)]
 pub struct KindTable {
     vars: Seq<Kind>,
     defs: Seq<Kind>,
+}
+
+/// Written out, so that a table that goes out of scope gives a proof one goal.
+impl Drop for KindTable {
+    fn drop(self) {
+        let KindTable {
+            vars: _vars,
+            defs: _defs,
+        } = self;
+    }
 }
 
 impl Model for KindTable {

@@ -5,8 +5,6 @@ mod bytes;
 mod front;
 mod mark;
 mod scan;
-#[cfg(test)]
-mod tests;
 mod word;
 
 pub use scan::lex;

@@ -6,8 +6,6 @@ mod frame;
 mod model;
 mod scratch;
 mod state;
-#[cfg(test)]
-mod tests;
 
 pub use model::{Assign, Cube, CubeList, Define, Lasso, Model, Signal, State, Var};
 pub use scratch::Scratch;

@@ -53,7 +53,6 @@ pub struct Assign {
 }
 
 /// A flat model, after McMillan's SMV: variables, DEFINEs, conditions, and the assignments `x :=`, `init(x) :=` and `next(x) :=`.
-#[derive(Drop)]
 pub struct Model {
     pub names: Names,
     pub vars: Seq<Var>,
@@ -66,4 +65,23 @@ pub struct Model {
     pub trans: Seq<Expr>,
     pub fair: Seq<Expr>,
     pub specs: Seq<Expr>,
+}
+
+/// Written out, so that a model that goes out of scope gives a proof one goal.
+impl Drop for Model {
+    fn drop(self) {
+        let Model {
+            names: _names,
+            vars: _vars,
+            defines: _defines,
+            inits: _inits,
+            invars: _invars,
+            nows: _nows,
+            firsts: _firsts,
+            nexts: _nexts,
+            trans: _trans,
+            fair: _fair,
+            specs: _specs,
+        } = self;
+    }
 }

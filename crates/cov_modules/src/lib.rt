@@ -18,8 +18,6 @@ mod reach;
 mod recursion;
 mod size;
 mod sizes;
-#[cfg(test)]
-mod tests;
 
 pub use check::check_modules;
 pub use clash::put_symbols;

@@ -6,8 +6,6 @@ mod dependence;
 mod order;
 mod reading;
 mod renumber;
-#[cfg(test)]
-mod tests;
 mod whole;
 
 pub use whole::put_in_order;

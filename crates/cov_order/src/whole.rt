@@ -42,17 +42,15 @@ fn ordered_by(alloc: Global, m: Model, order: &Order) -> Result<Model, NoMemory>
     let trans = renumbered_all(alloc, &m.trans, order)?;
     let fair = renumbered_all(alloc, &m.fair, order)?;
     let specs = renumbered_all(alloc, &m.specs, order)?;
-    Ok(Model {
-        names: m.names,
-        vars: m.vars,
-        defines,
-        inits,
-        invars,
-        nows,
-        firsts,
-        nexts,
-        trans,
-        fair,
-        specs,
-    })
+    let mut ordered = m;
+    ordered.defines = defines;
+    ordered.inits = inits;
+    ordered.invars = invars;
+    ordered.nows = nows;
+    ordered.firsts = firsts;
+    ordered.nexts = nexts;
+    ordered.trans = trans;
+    ordered.fair = fair;
+    ordered.specs = specs;
+    Ok(ordered)
 }

@@ -1,5 +1,5 @@
 -- The function's recursion beside the loops and tests of the code.
-use Rattle.std.proofs.Common.{◌≡◌, ◌≢◌, ℕ, zero, suc, ◌+◌, ◌-◌, ◌<◌, ◌≤◌, Bool, true, false, cond, eqb, List, [], ◌∷◌, ◌++◌, length, Option, Some, None, Result, Ok, Err, inl, inr, refl, sym, ap, subst, ◌∙◌, arith}
+use Rattle.std.proofs.Common.{◌≡◌, ◌≢◌, ℕ, zero, suc, ◌+◌, ◌-◌, ◌<◌, ◌≤◌, true, false, eqb, List, [], ◌∷◌, ◌++◌, length, Some, None, Result, Ok, Err, inl, inr, refl, ap, ◌∙◌, arith}
 use Rattle.std.proofs.lemmas.Bool.Decides.{eqb_tells}
 use Rattle.cov_syntax.specs.declared.lexeme.Terminal.{Terminal}
 use Rattle.cov_syntax.specs.declared.lexeme.Terminal.TheVariants as k
@@ -12,7 +12,7 @@ use Rattle.cov_syntax.specs.declared.tree.Node.TheVariants as n
 use Rattle.cov_syntax.specs.declared.tree.Expr.{Expr}
 use Rattle.cov_syntax.specs.declared.tree.Branch.{Branch}
 use Rattle.cov_syntax.specs.Lexemes.{Lexemes, kind, next, same, at}
-use Rattle.cov_grammar.specs.Steps.{Stop, Parser, ◌>>=◌, refuse, expect, separated, many}
+use Rattle.cov_grammar.specs.Steps.{Stop, Parser, ◌>>=◌, separated, many}
 use Rattle.cov_grammar.specs.Expressions.{joint, implication, operated, turn, climb, chain, prefixed, branch, branches, primary, level, expr}
 use Rattle.cov_grammar.specs.Modules.{entry, entry_after, begins_entry, begins_section, section, sections, module_tree, modules}
 use Rattle.cov_parse.specs.declared.error.ParseError.{ParseError}

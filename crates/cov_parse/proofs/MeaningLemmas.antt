@@ -1,6 +1,6 @@
 -- The names and numbers of tokens, one token after another.
-use Rattle.std.proofs.Common.{◌≡◌, ◌≢◌, ℕ, zero, suc, ◌+◌, ◌-◌, ◌*◌, ◌<◌, ◌≤◌, Bool, true, false, cond, List, [], ◌∷◌, ◌++◌, length, map, take, drop, get_or, slice_get, Option, Some, None, All, Contains, refl, sym, ap, subst, ◌∙◌, arith, append_assoc, append-nil, length-append}
-use Rattle.std.specs.Prelude.{◌||◌, min, fold, bytes_eq, Result, Ok, Err, OnOk, IfOk}
+use Rattle.std.proofs.Common.{◌≡◌, ◌≢◌, ℕ, zero, suc, ◌+◌, ◌-◌, ◌*◌, ◌<◌, ◌≤◌, Bool, true, false, cond, List, [], ◌∷◌, ◌++◌, length, map, take, drop, get_or, slice_get, Some, All, Contains, refl, sym, ap, subst, ◌∙◌, arith, append_assoc, append-nil, length-append}
+use Rattle.std.specs.Prelude.{◌||◌, min, bytes_eq, Result, Ok, Err, OnOk, IfOk}
 use Rattle.cov_syntax.specs.declared.error.NoMemory.{NoMemory}
 use Rattle.std.specs.List.{AllByRecursion, list_any}
 use Rattle.std.proofs.lemmas.List.{drop_more, take_more, map-append}
@@ -12,7 +12,7 @@ use Rattle.cov_syntax.specs.declared.lexeme.Terminal.{Terminal}
 use Rattle.cov_syntax.specs.declared.token.Token.{Token}
 use Rattle.cov_syntax.specs.declared.token.TokenKind.{TokenKind}
 use Rattle.cov_syntax.specs.declared.token.TokenKind.TheVariants as token_kind
-use Rattle.cov_syntax.specs.Lexemes.{spelling, with_name, names_after, names_from, names_of, place_of, value_of, terminal_of, meaning, lexeme_of, lexemes_of}
+use Rattle.cov_syntax.specs.Lexemes.{spelling, with_name, names_after, names_from, names_of, place_of, value_of, terminal_of, meaning, lexeme_of}
 use Rattle.cov_syntax.specs.Texts.{IsDistinctTexts}
 use Rattle.cov_syntax.proofs.TextLemmas.{IsDistinctTexts-push, slice_get-last}
 

@@ -1,10 +1,12 @@
 -- The text as a whole, from the laws of the grammar.
-use Rattle.std.proofs.Common.{◌≡◌, ◌≢◌, ℕ, zero, suc, ◌+◌, ◌-◌, ◌<◌, ◌≤◌, Bool, true, false, cond, ltb, List, [], ◌∷◌, length, Option, Some, None, Result, Ok, Err, refl, sym, ap, subst, ◌∙◌, arith}
+use Rattle.std.proofs.Common.{◌≡◌, ◌≢◌, ℕ, zero, suc, ◌+◌, ◌-◌, ◌≤◌, Bool, true, false, cond, ltb, List, [], ◌∷◌, length, Option, Some, None, Result, Ok, Err, refl, sym, ap, subst, ◌∙◌, arith}
 use Rattle.std.specs.Prelude.{IfOk}
 use Rattle.std.proofs.lemmas.Bool.{ltb-false}
 use Rattle.std.proofs.lemmas.Result.{IfOk-at_ok, IfOk-weaker}
 use Rattle.cov_syntax.specs.declared.fault.FaultKind.TheVariants as fault
 use Rattle.cov_syntax.specs.declared.fault.ModelFault.{ModelFault}
+use Rattle.cov_syntax.specs.declared.fault.Refused.{Refused}
+use Rattle.cov_syntax.specs.declared.fault.Refused.TheVariants as refused
 use Rattle.cov_syntax.specs.declared.program.ModuleTree.{ModuleTree}
 use Rattle.cov_syntax.specs.declared.program.Program.{Program}
 use Rattle.cov_syntax.specs.declared.token.Token.{Token}
@@ -16,6 +18,10 @@ use Rattle.cov_grammar.specs.Steps.{Stop}
 use Rattle.cov_grammar.specs.Modules.{program}
 use Rattle.cov_grammar.proofs.ModuleSoundness.{program_sound}
 use Rattle.cov_grammar.proofs.ModuleCompleteness.{program_answers}
+use Rattle.cov_first_fault.specs.FirstFault.{IsFirstFault}
+use Rattle.cov_first_fault.specs.Stops.{deep_fault}
+use Rattle.cov_first_fault.proofs.FirstFaults.{stop_fault_is, deep_fault_is}
+use Rattle.cov_parse.specs.Faults.{refusal}
 use Rattle.cov_parse.specs.declared.error.ParseError.{ParseError}
 use Rattle.cov_parse.specs.declared.error.ParseError.TheVariants as errors
 use Rattle.cov_parse.specs.Gives.{Fails}
@@ -61,6 +67,9 @@ done trees = Ok trees
 trees_are : (a b : List ModuleTree) → done a ≡ done b → a ≡ b
 trees_are a b e = cc
 
+faults_are : (f g : ModelFault) → refused.Fault f ≡ refused.Fault g → f ≡ g
+faults_are f g e = cc
+
 module _ (text : List ℕ) (ts : List Token) (names : List (List ℕ)) (xs : Lexemes) (names_are : names ≡ names_of text ts) (xs_are : xs ≡ lexemes_of text ts) where
   pub reads_text : (trees : List ModuleTree) → program xs ≡ Ok trees → ReadsText text ts (record { names = names; modules = trees })
   reads_text trees is = record {
@@ -87,3 +96,16 @@ module _ (text : List ℕ) (ts : List Token) (names : List (List ℕ)) (xs : Lex
 
   pub not_deep : (left : ℕ) → Some left ≡ deep false (0 ∷ []) xs → IsShallow (lexemes_of text ts) → ⊥
   not_deep left is shallow = let h : Some left ≡ None = is ∙ ap (λ (ys : Lexemes). deep false (0 ∷ []) ys) xs_are ∙ shallow in cc
+
+  first : (f g : ModelFault) → IsFirstFault (length text) xs f → refused.Fault f ≡ refused.Fault g → IsFirstFault (length text) (lexemes_of text ts) g
+  first f g is e = subst (λ (ys : Lexemes). IsFirstFault (length text) ys g) xs_are (subst (λ (h : ModelFault). IsFirstFault (length text) xs h) (faults_are f g e) is)
+
+  pub stop_is_first : (error : ParseError) → Fails error (program xs) → (found : Option ℕ) → found ≡ deep false (0 ∷ []) xs → found ≡ None
+      → (f : ModelFault) → refusal text xs error ≡ refused.Fault f → IsFirstFault (length text) (lexemes_of text ts) f
+  stop_is_first errors.Memory failed found is none f e = absurd cc
+  stop_is_first (errors.Unread n) failed found is none f e = first _ f (stop_fault_is (length text) xs (Stop.unread n) failed (sym is ∙ none)) e
+  stop_is_first (errors.TooGreat n) failed found is none f e = first _ f (stop_fault_is (length text) xs (Stop.too_great n) failed (sym is ∙ none)) e
+
+  pub deep_is_first : (left : ℕ) → Some left ≡ deep false (0 ∷ []) xs → (r : Refused) → (r ≢ refused.Memory → r ≡ refused.Fault (deep_fault (length text) xs left))
+      → (f : ModelFault) → r ≡ refused.Fault f → IsFirstFault (length text) (lexemes_of text ts) f
+  deep_is_first left is r h f e = first _ f (deep_fault_is (length text) xs left (sym is)) (sym (h (λ g. let i : refused.Memory ≡ refused.Fault f = sym g ∙ e in cc)) ∙ e)

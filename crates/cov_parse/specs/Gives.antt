@@ -1,7 +1,5 @@
 -- What a function returned is what parsing gives, unless memory ran out.
-use Rattle.std.specs.Prelude.{◌≡◌, ℕ, Result, Ok, Err}
-use denote.Ref.{Bor}
-use Rattle.cov_syntax.specs.Lexemes.{Lexemes}
+use Rattle.std.specs.Prelude.{◌≡◌, Result, Ok, Err}
 use Rattle.cov_grammar.specs.Steps.{Stop}
 use Rattle.cov_parse.specs.declared.error.ParseError.{ParseError}
 use Rattle.cov_parse.specs.declared.error.ParseError.TheVariants as errors

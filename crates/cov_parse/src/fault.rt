@@ -1,9 +1,9 @@
 //! Faults of a text, and where they are.
 
-ghost use Rattle.std.specs.Prelude.{◌≡◌, ◌≢◌, ◌<◌, ◌^◌, length, IsTrue};
-ghost use Rattle.cov_syntax.specs.Faults.{code_of};
+ghost use Rattle.std.specs.Prelude.{◌≡◌, ◌≢◌, ◌<◌, ◌^◌, length};
+ghost use Rattle.cov_first_fault.specs.Stops as stops;
 ghost use Rattle.cov_syntax.specs.declared.fault.Refused.TheVariants as Refused;
-ghost use Rattle.cov_parse.specs.Faults as spec;
+ghost use Rattle.cov_parse.specs.Faults.{refusal};
 
 use crate::error::ParseError;
 use crate::modules::program;
@@ -12,7 +12,7 @@ use std::alloc::Global;
 
 /// The lexeme with so many left.
 fn lexeme_at(lexemes: &[Lexeme], left: usize) -> Option<Lexeme>
-    ensures { result ≡ spec.lexeme_at lexemes.now left }
+    ensures { result ≡ stops.lexeme_at lexemes.now left }
 {
     lexemes.get(lexemes.len().saturating_sub(left)).copied()
 }
@@ -20,7 +20,7 @@ fn lexeme_at(lexemes: &[Lexeme], left: usize) -> Option<Lexeme>
 /// The place of the lexeme, or the end of the text.
 fn place_at(text: &[u8], lexeme: Option<Lexeme>) -> Span
     requires { length text.now < 2 ^ 32 }
-    ensures { result ≡ spec.place_at (length text.now) lexeme }
+    ensures { result ≡ stops.place_at (length text.now) lexeme }
 {
     let end = text.len() as u32;
     match lexeme {
@@ -33,7 +33,7 @@ fn place_at(text: &[u8], lexeme: Option<Lexeme>) -> Span
 }
 
 fn is_left_out(lexeme: Option<Lexeme>) -> bool
-    ensures { result ≡ spec.is_left_out lexeme }
+    ensures { result ≡ stops.is_left_out lexeme }
 {
     match lexeme {
         Some(lexeme) => match lexeme.kind {
@@ -45,8 +45,7 @@ fn is_left_out(lexeme: Option<Lexeme>) -> bool
 }
 
 fn unread_kind(lexeme: Option<Lexeme>) -> FaultKind
-    ensures value { result ≡ spec.unread_kind lexeme }
-    ensures code { IsTrue (spec.is_grammar_code (code_of result)) }
+    ensures { result ≡ stops.unread_at lexeme }
 {
     if is_left_out(lexeme) {
         FaultKind::LeftOut
@@ -58,8 +57,7 @@ fn unread_kind(lexeme: Option<Lexeme>) -> FaultKind
 /// Why nothing is read, with its place in the text.
 pub fn refused(text: &[u8], lexemes: &[Lexeme], error: ParseError) -> Refused
     requires { length text.now < 2 ^ 32 }
-    ensures value { result ≡ spec.refusal text.now lexemes.now error }
-    ensures code { spec.IsGrammarRefusal result }
+    ensures { result ≡ refusal text.now lexemes.now error }
 {
     let (kind, left) = match error {
         ParseError::Memory => return Refused::Memory,
@@ -70,11 +68,10 @@ pub fn refused(text: &[u8], lexemes: &[Lexeme], error: ParseError) -> Refused
 }
 
 /// The first fault of a text in which the lexeme with so many left is too deep.
-#[tactic(auto, using(std::proofs::lemmas::List::take_min), unfolding(crate::specs::Faults::deep_refusal))]
+#[tactic(auto, using(std::proofs::lemmas::List::take_min), unfolding(cov_first_fault::specs::Stops::deep_fault))]
 pub fn deep_fault(alloc: Global, text: &[u8], lexemes: &[Lexeme], left: usize) -> Refused
     requires { length text.now < 2 ^ 32 }
-    ensures value { result ≢ Refused.Memory → result ≡ spec.deep_refusal text.now lexemes.now left }
-    ensures code { spec.IsGrammarRefusal result }
+    ensures { result ≢ Refused.Memory → result ≡ Refused.Fault (stops.deep_fault (length text.now) lexemes.now left) }
 {
     let before = lexemes.len().saturating_sub(left);
     let front = &lexemes[..(before + 1).min(lexemes.len())];

@@ -1,11 +1,12 @@
-ghost use Rattle.std.specs.Prelude.{◌≡◌, Ok, IfOk, IfErr, MatchResult};
+ghost use Rattle.std.specs.Prelude.{◌≡◌, Ok, Err, IfOk, MatchResult, length};
+ghost use Rattle.cov_first_fault.specs.FirstFault.{IsFirstFault};
+ghost use Rattle.cov_syntax.specs.declared.fault.ModelFault.{ModelFault};
 ghost use Rattle.cov_syntax.specs.declared.fault.Refused.TheVariants as Refused;
 ghost use Rattle.cov_syntax.specs.declared.program.Program.{Program};
 ghost use Rattle.cov_syntax.specs.Lexemes.{lexemes_of};
 ghost use Rattle.cov_syntax.specs.Limits.{IsShallow};
 ghost use Rattle.cov_syntax.specs.Programs.{ReadsText};
 ghost use Rattle.cov_syntax.specs.Tokens as spec;
-ghost use Rattle.cov_parse.specs.Faults.{IsGrammarRefusal};
 
 use crate::depth::first_deep;
 use crate::fault::{deep_fault, refused};
@@ -21,7 +22,8 @@ use std::alloc::Global;
 pub fn parse(alloc: Global, text: &[u8], tokens: &Seq<Token>) -> Result<Program, Refused>
     requires { spec.tokens text.now ≡ Ok tokens.now }
     ensures found { IfOk result (λ p. ReadsText text.now tokens.now p × IsShallow (lexemes_of text.now tokens.now)) }
-    ensures told { IfErr result (λ e. IsGrammarRefusal e) }
+    ensures fault { (f : ModelFault) → result ≡ Err (Refused.Fault f)
+        → IsFirstFault (length text.now) (lexemes_of text.now tokens.now) f }
     // A program that reads the text is answered, unless memory runs out.
     ensures only { (p : Program) → ReadsText text.now tokens.now p → IsShallow (lexemes_of text.now tokens.now)
         → MatchResult result (λ answer. answer ≡ p) (λ e. e ≡ Refused.Memory) }

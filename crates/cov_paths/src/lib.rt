@@ -8,8 +8,6 @@ mod scope;
 mod scopes;
 mod symbols;
 mod target;
-#[cfg(test)]
-mod tests;
 
 pub use scopes::Scopes;
 pub use target::Target;

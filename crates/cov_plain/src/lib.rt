@@ -26,6 +26,3 @@ pub use lassos::is_fair_lasso;
 pub use polarity::is_positive;
 pub use truths::truth_set;
 pub use verdicts::passes;
-
-#[cfg(test)]
-mod tests;

@@ -16,6 +16,8 @@ mod init;
 #[cfg(test)]
 mod readings;
 #[cfg(test)]
+mod replays;
+#[cfg(test)]
 mod runs;
 #[cfg(test)]
 mod states;

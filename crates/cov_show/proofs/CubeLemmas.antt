@@ -25,17 +25,22 @@ marked-joined [] = refl
 marked-joined (t ∷ []) = append-nil t
 marked-joined (t ∷ u ∷ ts) = ap (λ (z : Text). t ++ 44 ∷ z) (marked-joined (u ∷ ts))
 
+pub marked_put : (t : Text) (ts : List Text) (into mark before after whole : Text) → before ≡ into ++ mark → after ≡ before ++ t
+    → into ++ marked mark (t ∷ ts) ≡ whole → after ++ marked (codes ",") ts ≡ whole
+marked_put t ts into mark before after whole e f so_far =
+    ap (λ (z : Text). z ++ marked (codes ",") ts) (f ∙ ap (λ (z : Text). z ++ t) e)
+    ∙ regrouped into mark t (marked (codes ",") ts)
+    ∙ so_far
+  where
+    regrouped : (a b c d : Text) → ((a ++ b) ++ c) ++ d ≡ a ++ ((b ++ c) ++ d)
+    regrouped a b c d = simp append_assoc
+
 pub marked_next : (ts : List Text) (i : ℕ) (t into mark before after whole : Text) → i < length ts → t ≡ get_or ts i []
     → before ≡ into ++ mark → after ≡ before ++ t → into ++ marked mark (drop i ts) ≡ whole → after ++ marked (codes ",") (drop (i + 1) ts) ≡ whole
 marked_next ts i t into mark before after whole h is e f so_far =
     let left : drop i ts ≡ t ∷ drop (i + 1) ts = drop_more ts i [] h ∙ ap (λ (x : Text). x ∷ drop (i + 1) ts) (sym is) in
     let now : into ++ marked mark (t ∷ drop (i + 1) ts) ≡ whole = subst (λ (xs : List Text). into ++ marked mark xs ≡ whole) left so_far in
-    ap (λ (z : Text). z ++ marked (codes ",") (drop (i + 1) ts)) (f ∙ ap (λ (z : Text). z ++ t) e)
-    ∙ regrouped into mark t (marked (codes ",") (drop (i + 1) ts))
-    ∙ now
-  where
-    regrouped : (a b c d : Text) → ((a ++ b) ++ c) ++ d ≡ a ++ ((b ++ c) ++ d)
-    regrouped a b c d = simp append_assoc
+    marked_put t (drop (i + 1) ts) into mark before after whole e f now
 
 -- ---- classes
 

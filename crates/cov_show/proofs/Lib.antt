@@ -9,3 +9,8 @@ pub mod Operators
 pub mod LeafLemmas
 pub mod Rereading
 pub mod WholeTexts
+pub mod ValueTexts
+pub mod StateTexts
+pub mod StateReading
+pub mod FormedStates
+pub mod StateLines

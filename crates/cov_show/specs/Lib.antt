@@ -2,3 +2,4 @@ pub mod Cubes
 pub mod Formulas
 pub mod Printing
 pub mod ReadAgain
+pub mod States

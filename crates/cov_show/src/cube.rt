@@ -20,7 +20,7 @@ pub fn show_cube(alloc: Global, m: &Model, c: &Cube, into: &mut Text) -> Result<
 }
 
 /// The word for a cube without parts.
-fn show_all_if_empty(text: &mut Text) -> Result<(), NoMemory>
+pub fn show_all_if_empty(text: &mut Text) -> Result<(), NoMemory>
     ensures { OnOk result (text.new ≡ spec.or_word text.old) }
 {
     if text.len() == 0 {

@@ -1,7 +1,9 @@
-ghost use Rattle.std.specs.Prelude.{◌≡◌, [], ◌++◌, OnOk, nat_lt};
+ghost use Rattle.std.specs.Prelude.{◌≡◌, [], ◌++◌, OnOk, IsTrue, nat_lt};
 ghost use Rattle.std.specs.Fmt.{signed_decimal};
+ghost use Rattle.std.specs.Str.{bytes_eq};
 ghost use Rattle.cov_show.specs.Printing as spec;
 ghost use Rattle.cov_show.specs.Printing.{Labels, name_text, printed};
+ghost use Rattle.cov_show.specs.States.{is_small_value};
 
 use crate::words::{TIGHTEST, infix_level, prefix_level};
 use cov_syntax::{Expr, Names, NoMemory, Node, Op1, Text, Value};
@@ -69,6 +71,19 @@ pub fn show_value(names: &Names, value: Value, into: &mut Text) -> Result<(), No
         Value::Bool(false) => into.extend_from_slice(b"FALSE"),
         Value::Int(i) => show_integer(i, into),
         Value::Sym(i) => show_name(names, i, into),
+    }
+}
+
+/// Whether this is the text of the value.
+pub fn is_value_text(names: &Names, value: Value, text: &[u8]) -> bool
+    ensures small { IsTrue (is_small_value value) }
+    ensures same { result ≡ bytes_eq text.now (spec.value_printed names.now value).bytes }
+{
+    match value {
+        Value::Bool(true) => text == b"TRUE".as_slice(),
+        Value::Bool(false) => text == b"FALSE".as_slice(),
+        Value::Int(i) => text == Buffer::new().format(i).as_bytes(),
+        Value::Sym(i) => text == name_text(names, i),
     }
 }
 

@@ -1,4 +1,4 @@
-//! The printed texts of expressions, of formulas and of cubes.
+//! The printed texts of expressions, of formulas, of states and of cubes, and states read from their texts.
 #![tactic(auto)]
 
 mod cube;
@@ -6,6 +6,9 @@ mod formula;
 mod labels;
 mod laws;
 mod leaves;
+mod state;
+mod state_fault;
+mod state_reading;
 #[cfg(test)]
 mod tests;
 mod tree;
@@ -13,5 +16,8 @@ mod words;
 
 pub use cube::show_cube;
 pub use formula::show_formula;
-pub use laws::read_again;
+pub use laws::{read_again, state_lines};
+pub use state::show_state;
+pub use state_fault::{StateFault, StateFaultKind, StateRefused};
+pub use state_reading::read_state;
 pub use tree::show_tree;

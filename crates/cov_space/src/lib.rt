@@ -17,6 +17,3 @@ pub use layer::Layer;
 pub use meter::Meter;
 pub use slots::{Slot, Slots};
 pub use space::Space;
-
-#[cfg(test)]
-mod tests;

@@ -5,8 +5,6 @@
 mod counts;
 mod put_off;
 mod stops;
-#[cfg(test)]
-mod tests;
 mod tour;
 
 pub use stops::{Entry, Stops};

@@ -9,8 +9,6 @@ mod names;
 mod program;
 mod seq;
 mod table;
-#[cfg(test)]
-mod tests;
 mod token;
 mod tree;
 mod words;

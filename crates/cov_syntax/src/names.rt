@@ -11,12 +11,22 @@ use std::marker::Model;
 pub type Text = Seq<u8>;
 
 /// Distinct texts, each named by its place in the list, and found in time logarithmic in their number.
-#[derive(Drop)]
 pub struct Names {
     alloc: Global,
     texts: Vec<Text>,
     /// The place of each text. A map owns its keys, so each text is held here a second time.
     places: BTreeMap<Vec<u8>, u32>,
+}
+
+/// Written out, so that names that go out of scope give a proof one goal.
+impl Drop for Names {
+    fn drop(self) {
+        let Names {
+            alloc: _,
+            texts: _texts,
+            places: _places,
+        } = self;
+    }
 }
 
 impl Model for Names {

@@ -10,12 +10,26 @@ pub struct Spelled {
 }
 
 /// The type of a declaration: a list of values, a range with both its ends, or an instance of a module.
-#[derive(Drop)]
 pub enum TypeTree {
     Boolean,
     List(Seq<Value>),
     Between(i32, i32),
     Instance { module: Spelled, given: Seq<Expr> },
+}
+
+/// Written out, so that a type that goes out of scope gives a proof one goal and not four.
+impl Drop for TypeTree {
+    fn drop(self) {
+        match self {
+            TypeTree::Boolean => {}
+            TypeTree::List(_values) => {}
+            TypeTree::Between(_, _) => {}
+            TypeTree::Instance {
+                module: _,
+                given: _given,
+            } => {}
+        }
+    }
 }
 
 /// Which value of a variable an assignment is about: in each state, in the first one, or in the next one.
@@ -37,7 +51,6 @@ pub enum CondKind {
 }
 
 /// An entry of a module. The place of a declaration is that of its type.
-#[derive(Drop)]
 pub enum Section {
     Decl {
         name: Spelled,
@@ -57,6 +70,32 @@ pub enum Section {
         kind: CondKind,
         body: Expr,
     },
+}
+
+/// Written out, so that an entry that goes out of scope gives a proof one goal and not four.
+impl Drop for Section {
+    fn drop(self) {
+        match self {
+            Section::Decl {
+                name: _,
+                kind: _kind,
+                place: _,
+            } => {}
+            Section::Define {
+                name: _,
+                body: _body,
+            } => {}
+            Section::Assign {
+                when: _,
+                target: _target,
+                body: _body,
+            } => {}
+            Section::Cond {
+                kind: _,
+                body: _body,
+            } => {}
+        }
+    }
 }
 
 /// A module with its formal parameters, its entries in the order of the text.

@@ -6,9 +6,16 @@ use std::marker::Model;
 use std::mem;
 
 /// A list that contracts see as the list of its items, also inside a type that leads back to itself.
-#[derive(Debug, Drop)]
+#[derive(Debug)]
 pub struct Seq<T> {
     items: Vec<T>,
+}
+
+/// Written out, so that the drop of a type of trees calls it at a field's type.
+impl<T: Drop> Drop for Seq<T> {
+    fn drop(self) {
+        let Seq { items: _items } = self;
+    }
 }
 
 impl<T> Model for Seq<T> {

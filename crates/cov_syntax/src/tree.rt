@@ -69,7 +69,6 @@ pub struct Expr {
 
 /// What an expression is. A path stands before flattening, a variable or a DEFINE after it.
 #[cycle(tree)]
-#[derive(Drop)]
 pub enum Node {
     Lit(Value),
     Path(Seq<u32>),
@@ -80,6 +79,29 @@ pub enum Node {
     Range(i32, i32),
     Set(Seq<Expr>),
     Case(Seq<Branch>),
+}
+
+/// Written out, so that a node that goes out of scope gives a proof one goal and not nine.
+impl Drop for Node {
+    #[cycle(drop)]
+    fn drop(self) {
+        match self {
+            Node::Lit(_) => {}
+            Node::Path(_path) => {}
+            Node::Var(_) => {}
+            Node::Def(_) => {}
+            Node::One(_, operand) => {
+                let _operand = operand.into_inner();
+            }
+            Node::Two(_, left, right) => {
+                let _left = left.into_inner();
+                let _right = right.into_inner();
+            }
+            Node::Range(_, _) => {}
+            Node::Set(_items) => {}
+            Node::Case(_branches) => {}
+        }
+    }
 }
 
 /// A branch of a case.

@@ -1,17 +1,16 @@
 -- Lemmas on runs that have enough of all but memory.
-use Rattle.std.proofs.Common.{◌≡◌, ℕ, Option, Some, None, ◌⊎◌, inl, inr, refl, ap}
+use Rattle.std.proofs.Common.{◌≡◌, ℕ, Bool, List, Option, Some, None, ◌⊎◌, inl, inr, refl, ap}
 use Rattle.cov_io.specs.Outside.{Table, Rose}
 use Rattle.cov_space.specs.Meters.{MeterOf}
 use Rattle.cov_words.specs.declared.job.Job.{Job}
 use Rattle.cov_top.specs.Nodes.{IsAmpleFile}
 use Rattle.cov_top.specs.Refusal.{IsCause}
 use Rattle.cov_jobs.specs.declared.fault.AskFault.{AskFault}
-use Rattle.cov_top.specs.Run.{IsInputFault, IsMissing, IsUnknownFile}
+use Rattle.cov_top.specs.Run.{IsInputFault, IsJobReport, IsMissing, IsUnknownFile}
 use Rattle.cov_top.specs.declared.status.InputFault.{InputFault}
-use Rattle.cov_top.specs.declared.status.InputFault.TheVariants.{Model}
 use Rattle.cov_top.specs.declared.status.Status.{Status}
 use Rattle.cov_top.specs.declared.status.Status.TheVariants.{Done, Fails, Words, Input, Read, Write, Nodes, Memory, Asked}
-use Rattle.cov_top.proofs.NodesLemmas.{ample-accepted, ample-job, ample-short, ample-there, missing-short}
+use Rattle.cov_top.proofs.NodesLemmas.{evidence-there, ample-accepted, ample-job, ample-short, ample-there, missing-short}
 use Rattle.cov_top.proofs.AskedLemmas.{ample-unasked, missing-asked, unknown-fault, unknown-short, unknown-there, unknown-job, one-question}
 use Rattle.cov_top.proofs.RunLemmas.{accepted-fault}
 
@@ -19,10 +18,11 @@ missing-job : (told : Option Table) (j : Option Job) → IsMissing told j → j 
 missing-job told None h e = h
 missing-job told (Some j) h e = cc
 
-missing-fault : (told : Option Table) (j : Option Job) (f : InputFault) → IsMissing told j → IsInputFault told j f → ⊥
+pub missing-fault : (told : Option Table) (j : Option Job) (f : InputFault) → IsMissing told j → IsInputFault told j f → ⊥
 missing-fault told None f h r = h
 missing-fault None (Some j) f h r = h
-missing-fault (Some files) (Some j) (Model f) h r = let is = r.1 in cc
+missing-fault (Some files) (Some j) f (inl h) r = let is = r.1 in cc
+missing-fault (Some files) (Some j) f (inr h) r = evidence-there files j r.2 h.0 r.3 h.1 h.2
 
 -- only want of memory refuses a file for which the nodes are enough, where no read failed
 pub refusal-complete : (told : Option Table) (before now : ℕ) (j : Option Job) (old new : MeterOf) (s : Status) → IsCause told before now j old new s
@@ -49,6 +49,13 @@ refusal-missing told before now j old new Write c h = absurd c
 refusal-missing told before now j old new (Nodes full) c h = absurd (missing-short told j old new full h c)
 refusal-missing told before now j old new Memory c h = inr refl
 refusal-missing told before now j old new (Asked q) c h = absurd (missing-asked told j q h c)
+
+-- where a file is not there, there is no report
+pub missing-report : (told : Option Table) (j : Option Job) (passes : Bool) (text : List ℕ) → IsMissing told j → IsJobReport told j passes text → ⊥
+missing-report told None passes text h r = r
+missing-report None (Some j) passes text h r = h
+missing-report (Some files) (Some j) passes text (inl h) r = let is = r.file.0 in cc
+missing-report (Some files) (Some j) passes text (inr h) r = evidence-there files j r.evidence h.0 r.evidence_file h.1 h.2
 
 -- a report is put whole, where no write failed
 pub report-complete : (before now : ℕ) (s : Status) → (s ≡ Done) ⊎ ((s ≡ Fails) ⊎ (s ≡ Write)) → (s ≡ Write → Rose before now) → (Rose before now → ⊥)

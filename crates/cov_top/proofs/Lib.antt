@@ -6,3 +6,5 @@ pub mod NodesLemmas
 pub mod CompleteLemmas
 pub mod AskedLemmas
 pub mod LineLemmas
+pub mod ReplayLemmas
+pub mod FaultLemmas

@@ -3,13 +3,15 @@ use Rattle.std.specs.Prelude.{ℕ, ◌⊎◌, List, [], ◌++◌, codes, decimal
 use Rattle.cov_syntax.specs.declared.words.Word.{Word}
 use Rattle.cov_syntax.specs.Words.{word_spelling}
 use Rattle.cov_syntax.specs.Faults.{name_of}
+use Rattle.cov_evid.specs.Faults.{name_of as evidence_name_of}
+use Rattle.cov_evid.specs.declared.fault.EvidFault.{EvidFault}
 use Rattle.cov_io.specs.Outside.{Rose, Gains}
 use Rattle.cov_jobs.specs.declared.fault.AskFault.TheVariants.{UnknownSignal}
 use Rattle.cov_space.specs.declared.fault.NodesFull.{NodesFull}
 use Rattle.cov_top.specs.Transfer.{GainsPart}
 use Rattle.cov_top.specs.declared.status.Status.{Status}
 use Rattle.cov_top.specs.declared.status.Status.TheVariants.{Done, Fails, Words, Input, Read, Write, Nodes, Memory, Asked}
-use Rattle.cov_top.specs.declared.status.InputFault.TheVariants.{Model}
+use Rattle.cov_top.specs.declared.status.InputFault.TheVariants.{Model, Evidence}
 
 -- a space and a word, where there is one
 abbrev pub behind_space : Option Word → List ℕ
@@ -19,6 +21,10 @@ behind_space (Some w) = codes " " ++ word_spelling w
 -- the line on a fault of a model, by its code, the line and column of its place, and the left-out word there
 abbrev pub model_line : ℕ → ℕ → ℕ → Option Word → List ℕ
 model_line code line column word = codes "model: " ++ name_of code ++ codes " at " ++ decimal line ++ codes ":" ++ decimal column ++ behind_space word ++ codes "\n"
+
+-- the line on a fault of evidence, by its name and the number of its line
+abbrev pub evidence_line : EvidFault → List ℕ
+evidence_line f = codes "evidence: " ++ evidence_name_of f.code ++ codes " at line " ++ decimal f.line ++ codes "\n"
 
 -- the line on nodes that ran out: how many stood, how many may, and how many sets were kept
 abbrev pub nodes_line : NodesFull → List ℕ
@@ -34,6 +40,7 @@ error_line Done line column word signal = []
 error_line Fails line column word signal = []
 error_line Words line column word signal = codes "usage: covsmv COMMAND MODEL [SIGNAL..] [OPTIONS]\n"
 error_line (Input (Model f)) line column word signal = model_line f.code line column word
+error_line (Input (Evidence f)) line column word signal = evidence_line f
 error_line Read line column word signal = codes "read failed\n"
 error_line Write line column word signal = codes "write failed\n"
 error_line (Nodes full) line column word signal = nodes_line full

@@ -1,5 +1,6 @@
 pub mod Accepting
 pub mod ErrorLine
+pub mod Inputs
 pub mod Nodes
 pub mod Position
 pub mod Reading

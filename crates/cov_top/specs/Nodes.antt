@@ -9,20 +9,22 @@ use Rattle.cov_sym.specs.Systems.{IsOutOfNodes}
 use Rattle.cov_jobs.specs.declared.fault.AskFault.{AskFault}
 use Rattle.cov_jobs.specs.Faults.{IsAsked}
 use Rattle.cov_types.specs.Roots.{enough}
-use Rattle.cov_words.specs.Words.{model_name, opts_of}
+use Rattle.cov_words.specs.Words.{evidence_name, model_name, opts_of}
 use Rattle.cov_words.specs.declared.job.Job.{Job}
 use Rattle.cov_top.specs.Reading.{IsAccepted}
+use Rattle.cov_top.specs.Run.{IsEvidenceFile, IsSpelled}
 use Rattle.cov_top.specs.declared.status.Status.{Status}
 use Rattle.cov_top.specs.declared.status.Status.TheVariants.{Nodes}
 
 -- A text is accepted as one model and as no other, of which the job asks what it has, and an operation on its sets was refused, which the meter was told: the
--- nodes of the job are fewer than what is enough for the model.
+-- nodes of the job, which is no replay, are fewer than what is enough for the model.
 pub record IsTextShort (j : Job) (bytes : List ℕ) (old new : MeterOf) (full : NodesFull) : Type 0 where
   pub program : Program
   pub model : models.Model
   pub accepted : IsAccepted bytes program model
   pub only : (p : Program) (m : models.Model) → IsAccepted bytes p m → m ≡ model
   pub unasked : (a : AskFault) → IsAsked model j a → ⊥
+  pub diagrams : evidence_name j ≡ None
   pub out : IsOutOfNodes model (opts_of j).nodes old new full
 
 -- the same of the whole file of the job
@@ -41,16 +43,25 @@ abbrev pub KeepsMeter : Status → MeterOf → MeterOf → Type 0
 KeepsMeter (Nodes full) old new = Unit {0}
 KeepsMeter s old new = new ≡ old
 
--- a text is accepted as a model of which the job asks what it has, and for which its nodes are enough
-pub record IsAmple (j : Job) (bytes : List ℕ) : Type 0 where
+-- the nodes of a job are enough for a model; a replay, which has evidence, makes no diagram
+abbrev pub HasNodes : Job → Option (List ℕ) → models.Model → Type 0
+HasNodes j None m = enough m ≤ (opts_of j).nodes
+HasNodes j (Some bytes) m = Unit {0}
+
+-- A text is accepted as a model of which the job asks what it has, and for which its nodes are enough. The bytes of the evidence, where there are some, speak
+-- of the model.
+pub record IsAmple (j : Job) (bytes : List ℕ) (evidence : Option (List ℕ)) : Type 0 where
   pub program : Program
   pub model : models.Model
   pub accepted : IsAccepted bytes program model
   pub unasked : (a : AskFault) → IsAsked model j a → ⊥
-  pub nodes : enough model ≤ (opts_of j).nodes
+  pub spelled : IsSpelled model evidence
+  pub nodes : HasNodes j evidence model
 
--- files are told, and the one that the job names is accepted as a model for which its nodes are enough
+-- files are told, and those that the job names are accepted as a model for which its nodes are enough, and as evidence that speaks of it
 abbrev pub IsAmpleFile : Option Table → Option Job → Type 0
 IsAmpleFile told None = ⊥
 IsAmpleFile None (Some j) = ⊥
-IsAmpleFile (Some files) (Some j) = (bytes : List ℕ) × (file_of files (model_name j) ≡ Some bytes) × IsAmple j bytes
+IsAmpleFile (Some files) (Some j) =
+    (bytes : List ℕ) × (file_of files (model_name j) ≡ Some bytes)
+    × (evidence : Option (List ℕ)) × IsEvidenceFile (Some files) j evidence × IsAmple j bytes evidence

@@ -2,7 +2,7 @@
 use Rattle.std.specs.Prelude.{◌≡◌, ℕ, ◌≤◌, ◌⊎◌, List, length, Option, None, IsSome}
 use Rattle.cov_jobs.specs.declared.fault.AskFault.{AskFault}
 use Rattle.cov_jobs.specs.declared.fault.AskFault.TheVariants.{UnknownSignal}
-use Rattle.cov_words.specs.declared.job.Job.TheVariants.{Init, Reach, Check, Vacuity, Cover}
+use Rattle.cov_words.specs.declared.job.Job.TheVariants.{Init, Reach, Check, Vacuity, Cover, Replay}
 use Rattle.cov_io.specs.Outside.{Table, Rose}
 use Rattle.cov_top.specs.ErrorLine.{named}
 use Rattle.cov_top.specs.Run.{IsAskedFile, IsInputFault, IsMissing, IsPlace, IsSignalAt}
@@ -12,7 +12,7 @@ use Rattle.cov_top.specs.declared.refusal.NoReport.{NoReport}
 use Rattle.cov_top.specs.declared.refusal.NoReport.TheVariants as no_report
 use Rattle.cov_syntax.specs.Tokens.{fault_at}
 use Rattle.cov_top.specs.Position.{line_of, column_of, told_word}
-use Rattle.cov_top.specs.declared.status.InputFault.TheVariants.{Model}
+use Rattle.cov_top.specs.declared.status.InputFault.TheVariants.{Model, Evidence}
 use Rattle.cov_words.specs.declared.job.Job.{Job}
 use Rattle.cov_space.specs.Meters.{MeterOf}
 use Rattle.cov_top.specs.Nodes.{IsJobShort, KeepsMeter}
@@ -31,10 +31,12 @@ IsTold (Reach name opts) a = ⊥
 IsTold (Check name opts) a = ⊥
 IsTold (Vacuity name opts) a = ⊥
 IsTold (Cover name signals opts) (UnknownSignal place) = (1 ≤ place) × (place ≤ length signals)
+IsTold (Replay name evidence) a = ⊥
 
 -- what is wrong with a job's question, where that is why there is no report
 abbrev pub IsAnswerable : Job → NoReport → Type 0
 IsAnswerable j (no_report.Fault f) = Unit {0}
+IsAnswerable j (no_report.Evidence f) = Unit {0}
 IsAnswerable j (no_report.Asked a) = IsTold j a
 IsAnswerable j (no_report.Nodes full) = Unit {0}
 IsAnswerable j no_report.Memory = Unit {0}
@@ -43,6 +45,7 @@ IsAnswerable j no_report.Memory = Unit {0}
 abbrev pub IsUnread : Job → List ℕ → NoReport → Refusal → Type 0
 IsUnread j text (no_report.Fault f) r =
     (r.status ≡ Input (Model f)) × (r.position.line ≡ line_of text f.place.start) × (r.position.column ≡ column_of text f.place.start) × (r.word ≡ told_word text f)
+IsUnread j text (no_report.Evidence f) r = r.status ≡ Input (Evidence f)
 IsUnread j text (no_report.Asked a) r = ((r.status ≡ Asked a) × IsSignalAt j a (named r.signal)) ⊎ (r.status ≡ Memory)
 IsUnread j text (no_report.Nodes full) r = r.status ≡ Nodes full
 IsUnread j text no_report.Memory r = r.status ≡ Memory

@@ -2,12 +2,13 @@ ghost use Rattle.std.specs.Prelude.{◌≡◌, ◌≢◌, ℕ, ◌≤◌, ◌+�
 ghost use Rattle.cov_jobs.specs.declared.fault.AskFault.{AskFault as Ask};
 ghost use Rattle.cov_syntax.specs.Words.{word_spelling};
 ghost use Rattle.arrayvec.specs.ArrayString.{array_string_len};
-ghost use Rattle.cov_top.specs.ErrorLine.{behind_space, error_line, model_line, nodes_line, signal_line, PutsLine};
+ghost use Rattle.cov_top.specs.ErrorLine.{behind_space, error_line, evidence_line, model_line, nodes_line, signal_line, PutsLine};
 
 use crate::position::Position;
 use crate::status::{InputFault, Status};
 use crate::transfer::put_all;
 use arrayvec::ArrayString;
+use cov_evid::EvidFault;
 use cov_io::Sink;
 use cov_jobs::AskFault;
 use cov_space::NodesFull;
@@ -57,6 +58,20 @@ fn model_line(fault: ModelFault, position: Position, word: Option<Word>) -> Arra
     line
 }
 
+/// The line on a fault of evidence.
+fn evidence_line(fault: EvidFault) -> ArrayString<LINE>
+    ensures { result.bytes ≡ evidence_line fault }
+{
+    let mut buffer = Buffer::new();
+    let mut line = ArrayString::new();
+    line.push_str("evidence: ");
+    line.push_str(fault.name());
+    line.push_str(" at line ");
+    line.push_str(buffer.format(fault.line));
+    line.push_str("\n");
+    line
+}
+
 /// The line on nodes that ran out.
 fn nodes_line(full: NodesFull) -> ArrayString<LINE>
     ensures { result.bytes ≡ nodes_line full }
@@ -81,6 +96,7 @@ fn line_of_status(status: Status, position: Position, word: Option<Word>) -> Arr
         Status::Done | Status::Fails | Status::Asked(_) => "",
         Status::Words => "usage: covsmv COMMAND MODEL [SIGNAL..] [OPTIONS]\n",
         Status::Input(InputFault::Model(fault)) => return model_line(fault, position, word),
+        Status::Input(InputFault::Evidence(fault)) => return evidence_line(fault),
         Status::Read => "read failed\n",
         Status::Write => "write failed\n",
         Status::Nodes(full) => return nodes_line(full),

@@ -2,6 +2,7 @@
 #![tactic(auto)]
 
 mod error_line;
+mod input;
 mod position;
 mod program;
 mod reading;

@@ -5,16 +5,18 @@ ghost use Rattle.cov_top.specs.Run.{IsSignalAt};
 
 use crate::position::{Position, position_of, told_word};
 use crate::status::{InputFault, Status};
+use cov_evid::{EvidFault, EvidRefused};
 use cov_jobs::{AskFault, JobFault};
 use cov_space::NodesFull;
 use cov_syntax::{FaultKind, ModelFault, NoMemory, Refused, Seq, Span, Text, Word};
 use cov_words::Job;
 use std::alloc::Global;
 
-/// Why there is no report on a text.
+/// Why there is no report on a text, and on its evidence.
 #[derive(Clone, Copy, Debug)]
 pub(crate) enum NoReport {
     Fault(ModelFault),
+    Evidence(EvidFault),
     Asked(AskFault),
     Nodes(NodesFull),
     Memory,
@@ -29,6 +31,19 @@ impl From<Refused> for NoReport {
         match refused {
             Refused::Fault(fault) => NoReport::Fault(fault),
             Refused::Memory => NoReport::Memory,
+        }
+    }
+}
+
+impl From<EvidRefused> for NoReport {
+    ghost use Rattle.cov_top.specs.Stops.{of_evidence};
+
+    ghost from_gives = { λ r e. e ≡ of_evidence r };
+
+    fn from(refused: EvidRefused) -> NoReport {
+        match refused {
+            EvidRefused::Fault(fault) => NoReport::Evidence(fault),
+            EvidRefused::Memory => NoReport::Memory,
         }
     }
 }
@@ -119,6 +134,7 @@ pub(crate) fn unread(alloc: Global, job: &Job, text: &[u8], reason: NoReport) ->
             word: told_word(text, fault),
             signal: None,
         },
+        NoReport::Evidence(fault) => refuse(Status::Input(InputFault::Evidence(fault))),
         NoReport::Asked(fault) => unanswered(alloc, job, fault),
         NoReport::Nodes(full) => refuse(Status::Nodes(full)),
         NoReport::Memory => refuse(Status::Memory),

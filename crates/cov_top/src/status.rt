@@ -1,6 +1,7 @@
 ghost use Rattle.std.specs.Prelude.{◌≡◌};
 ghost use Rattle.cov_top.specs.Status.{code_of};
 
+use cov_evid::EvidFault;
 use cov_jobs::AskFault;
 use cov_space::NodesFull;
 use cov_syntax::ModelFault;
@@ -9,6 +10,7 @@ use cov_syntax::ModelFault;
 #[derive(Clone, Copy, Debug, PartialEq, Eq)]
 pub enum InputFault {
     Model(ModelFault),
+    Evidence(EvidFault),
 }
 
 /// How the program ends.

@@ -39,6 +39,7 @@ pub(crate) fn read_file<F: Files>(
     ensures within { IfOk result (λ bytes. length bytes ≤ limit) }
     ensures too_long { result ≡ Err ReadFault.TooLong → IsLonger (F.told files.old) name.now limit }
     ensures failed { result ≡ Err ReadFault.Failed → Rose (F.faults files.old) (F.faults files.new) ⊎ IsAbsent (F.told files.old) name.now }
+    ensures told { F.told files.new ≡ F.told files.old }
     ensures later { F.faults files.old ≤ F.faults files.new }
 {
     match files.start(alloc, name) {

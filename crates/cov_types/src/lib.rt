@@ -12,8 +12,6 @@ mod kinds;
 mod laws;
 mod named;
 mod roots;
-#[cfg(test)]
-mod tests;
 mod value_set;
 mod values;
 mod variables;

@@ -57,19 +57,16 @@ pub(crate) fn settle_model(alloc: Global, m: Model) -> Result<Settled, Refused>
     let states = settle_states(alloc, &kinds, &m)?;
     let assigns = settle_all_assigns(alloc, &kinds, &m)?;
     let paths = settle_paths(alloc, &kinds, &m)?;
-    let model = Model {
-        names: m.names,
-        vars: m.vars,
-        defines,
-        inits: states.inits,
-        invars: states.invars,
-        nows: assigns.nows,
-        firsts: assigns.firsts,
-        nexts: assigns.nexts,
-        trans: paths.trans,
-        fair: paths.fair,
-        specs: paths.specs,
-    };
+    let mut model = m;
+    model.defines = defines;
+    model.inits = states.inits;
+    model.invars = states.invars;
+    model.nows = assigns.nows;
+    model.firsts = assigns.firsts;
+    model.nexts = assigns.nexts;
+    model.trans = paths.trans;
+    model.fair = paths.fair;
+    model.specs = paths.specs;
     Ok(Settled { model, kinds })
 }
 

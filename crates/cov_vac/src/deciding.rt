@@ -10,36 +10,16 @@ ghost use Rattle.cov_space.specs.Answers.{IsCallFault};
 ghost use Rattle.cov_types.specs.Roots.{greatest_size};
 ghost use Rattle.cov_formulas.specs.Formulas.{IsFormulaOf};
 ghost use Rattle.cov_hold.specs.Prepared.{IsPrepared};
-ghost use Rattle.cov_check.specs.Passing.{IsPassing};
-ghost use Rattle.cov_vac.specs.Vacuous.{IsVacuousIn};
+ghost use Rattle.cov_claims.specs.Truths.{IsPassing};
+ghost use Rattle.cov_claims.specs.Vacuous.{IsVacuousIn};
 
 use cov_check::verdict;
-use cov_ctl::{Formula, constant, polarity, replace};
+use cov_claims::hardest;
+use cov_ctl::Formula;
 use cov_space::SpaceFault;
 use cov_sym::Sys;
-use cov_syntax::NoMemory;
 use cov_types::Checked;
 use std::alloc::Global;
-
-/// The constant that makes a formula hardest to pass in the place of the occurrence: FALSE where it is positive, TRUE where
-/// it is negative, after Kupferman and Vardi (1999).
-fn hardest_constant(f: &Formula, n: u32) -> Formula
-    requires { IsOccurrence (formula_of f.now) n }
-    ensures { formula_of result ≡ Atom (constant_expr (not (positive (formula_of f.now) n))) }
-{
-    match polarity(f, n) {
-        Some(positive) => constant(!positive),
-        None => constant(true),
-    }
-}
-
-/// The formula with that constant in the place of the occurrence.
-fn hardest(alloc: Global, f: &Formula, n: u32) -> Result<Formula, NoMemory>
-    requires { IsOccurrence (formula_of f.now) n }
-    ensures { IfOk result (λ g. formula_of g ≡ logic.replace (formula_of f.now) n (Atom (constant_expr (not (positive (formula_of f.now) n))))) }
-{
-    replace(alloc, f, n, &hardest_constant(f, n))
-}
 
 /// Whether the formula passes with every formula over the model in the place of the occurrence. The sets stay as before.
 pub fn vacuous(

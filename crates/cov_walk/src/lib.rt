@@ -18,13 +18,9 @@ mod refuse;
 mod sets;
 mod settling;
 mod site;
-#[cfg(test)]
-mod tests;
 mod topping;
 mod trees;
 mod wide;
-#[cfg(test)]
-mod width_tests;
 mod widths;
 
 pub use checking::{check, own_kind};

@@ -4,7 +4,7 @@ use Rattle.std.specs.List.{list_all}
 use Rattle.std.specs.Str.{bytes_eq}
 use Rattle.std.specs.declared.alloc.Global.{Global}
 use Rattle.cov_words.specs.declared.job.Job.{Job}
-use Rattle.cov_words.specs.declared.job.Job.TheVariants.{Init, Reach, Check, Vacuity, Cover}
+use Rattle.cov_words.specs.declared.job.Job.TheVariants.{Init, Reach, Check, Vacuity, Cover, Replay}
 use Rattle.cov_words.specs.declared.job.Opts.{Opts}
 
 -- the file of a job's model
@@ -14,6 +14,20 @@ model_name (Reach model opts) = model
 model_name (Check model opts) = model
 model_name (Vacuity model opts) = model
 model_name (Cover model signals opts) = model
+model_name (Replay model evidence) = model
+
+-- the file of a job's evidence; only a replay has one
+abbrev pub evidence_name : Job → Option (List ℕ)
+evidence_name (Init model opts) = None
+evidence_name (Reach model opts) = None
+evidence_name (Check model opts) = None
+evidence_name (Vacuity model opts) = None
+evidence_name (Cover model signals opts) = None
+evidence_name (Replay model evidence) = Some evidence
+
+-- the numbers of options that are not given
+abbrev pub default_options : Opts
+default_options = record { nodes = 1000000; cubes = 200 }
 
 -- the numbers of a job's options
 abbrev pub opts_of : Job → Opts
@@ -22,6 +36,7 @@ opts_of (Reach model opts) = opts
 opts_of (Check model opts) = opts
 opts_of (Vacuity model opts) = opts
 opts_of (Cover model signals opts) = opts
+opts_of (Replay model evidence) = default_options
 
 -- ---- words
 
@@ -119,8 +134,8 @@ option_number default most (v ∷ w ∷ vs) = None
 
 -- the numbers of the options
 abbrev pub options : Sorted → Option Opts
-options s = elim (option_number 1000000 16000000 s.nodes) [
-  | Some nodes ↦ elim (option_number 200 100000 s.cubes) [ Some cubes ↦ Some (record { nodes = nodes; cubes = cubes }) | None ↦ None ]
+options s = elim (option_number default_options.nodes 16000000 s.nodes) [
+  | Some nodes ↦ elim (option_number default_options.cubes 100000 s.cubes) [ Some cubes ↦ Some (record { nodes = nodes; cubes = cubes }) | None ↦ None ]
   | None ↦ None
 ]
 
@@ -139,16 +154,27 @@ model_job command cubes model opts =
     else if bytes_eq command (codes "vacuity") then Some (Vacuity model opts)
     else None
 
--- the job of a command on a model and signals
-abbrev pub signals_job : List ℕ → List ℕ → List (List ℕ) → Opts → Option Job
-signals_job command model signals opts = if bytes_eq command (codes "cover") then Some (Cover model signals opts) else None
+-- a replay has one file behind the model
+abbrev pub replay_job : List ℕ → List (List ℕ) → Option Job
+replay_job model [] = None
+replay_job model (evidence ∷ []) = Some (Replay model evidence)
+replay_job model (evidence ∷ more ∷ rest) = None
 
--- the job of a command on its positional words: the first is the model, and those behind it are signals
+-- the job of a command on a model and the words behind it; `replay` takes no options
+abbrev pub behind_job : List ℕ → Sorted → List ℕ → List (List ℕ) → Opts → Option Job
+behind_job command s model rest opts =
+    if bytes_eq command (codes "cover") then Some (Cover model rest opts)
+    else if not (is_none s.nodes) then None
+    else if not (is_none s.cubes) then None
+    else if bytes_eq command (codes "replay") then replay_job model rest
+    else None
+
+-- the job of a command on its positional words: the first is the model, and behind it stand signals, or the file of evidence
 abbrev pub command_job : List ℕ → Sorted → Opts → Option Job
 command_job command s opts = elim s.positional [
   | [] ↦ None
   | model ∷ [] ↦ model_job command s.cubes model opts
-  | model ∷ signal ∷ signals ↦ signals_job command model (signal ∷ signals) opts
+  | model ∷ word ∷ words ↦ behind_job command s model (word ∷ words) opts
 ]
 
 -- the job of a command and its sorted words

@@ -1,4 +1,5 @@
 ghost use Rattle.std.specs.Prelude.{◌≡◌};
+ghost use Rattle.std.specs.Option.{option_copied};
 ghost use Rattle.cov_words.specs.Words as spec;
 
 use cov_syntax::{NoMemory, Seq, Text};
@@ -10,6 +11,14 @@ pub struct Opts {
     pub nodes: u32,
     /// How many cubes of a set are printed at most, from 1 to 100,000.
     pub cubes: u32,
+}
+
+impl Opts {
+    /// The numbers where no option is given.
+    pub(crate) const DEFAULT: Opts = Opts {
+        nodes: 1_000_000,
+        cubes: 200,
+    };
 }
 
 /// What the words ask for: a command, the file of its model, its signals in their order, and its options.
@@ -36,6 +45,11 @@ pub enum Job {
         signals: Seq<Text>,
         opts: Opts,
     },
+    /// It has the file of its evidence, and no options.
+    Replay {
+        model: Text,
+        evidence: Text,
+    },
 }
 
 impl Job {
@@ -52,7 +66,18 @@ impl Job {
                 model,
                 signals: _,
                 opts: _,
-            } => model.as_slice(),
+            }
+            | Job::Replay { model, evidence: _ } => model.as_slice(),
+        }
+    }
+
+    /// The name of the evidence's file, where the job has one.
+    pub fn evidence(&self) -> Option<&[u8]>
+        ensures { option_copied result ≡ spec.evidence_name self.now }
+    {
+        match self {
+            Job::Replay { model: _, evidence } => Some(evidence.as_slice()),
+            _ => None,
         }
     }
 
@@ -70,6 +95,10 @@ impl Job {
                 signals: _,
                 opts,
             } => *opts,
+            Job::Replay {
+                model: _,
+                evidence: _,
+            } => Opts::DEFAULT,
         }
     }
 }

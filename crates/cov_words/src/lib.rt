@@ -8,8 +8,6 @@ mod options;
 mod positional;
 mod read;
 mod sort;
-#[cfg(test)]
-mod tests;
 
 pub use job::{Job, Opts, WordsFault};
 pub use read::read_words;

@@ -8,11 +8,7 @@ use crate::brief::{Brief, Given};
 use crate::job::Opts;
 use crate::number::number_to;
 
-const DEFAULT_NODES: u32 = 1_000_000;
-
 const MOST_NODES: u32 = 16_000_000;
-
-const DEFAULT_CUBES: u32 = 200;
 
 const MOST_CUBES: u32 = 100_000;
 
@@ -31,7 +27,7 @@ fn option_number(default: u32, most: u32, given: Given) -> Option<u32>
 pub(crate) fn options(sorted: &Brief) -> Option<Opts>
     ensures { (s : spec.Sorted) → IsBrief sorted.now s → result ≡ spec.options s }
 {
-    let nodes = option_number(DEFAULT_NODES, MOST_NODES, sorted.nodes)?;
-    let cubes = option_number(DEFAULT_CUBES, MOST_CUBES, sorted.cubes)?;
+    let nodes = option_number(Opts::DEFAULT.nodes, MOST_NODES, sorted.nodes)?;
+    let cubes = option_number(Opts::DEFAULT.cubes, MOST_CUBES, sorted.cubes)?;
     Some(Opts { nodes, cubes })
 }

@@ -33,28 +33,57 @@ fn model_job(command: &str, cubes: Given, model: Text, opts: Opts) -> Option<Job
     None
 }
 
-/// The job of a command on a model and signals.
-fn signals_job(command: &str, model: Text, signals: Seq<Text>, opts: Opts) -> Option<Job>
-    ensures { result ≡ spec.signals_job command.now model signals opts }
+/// The replay of a model and the one file behind it.
+fn replay_job(model: Text, mut files: Seq<Text>) -> Option<Job>
+    ensures { result ≡ spec.replay_job model files }
+{
+    if files.len() != 1 {
+        return None;
+    }
+    let evidence = files.pop()?;
+    Some(Job::Replay { model, evidence })
+}
+
+/// The job of a command on a model and the words behind it.
+fn behind_job(
+    command: &str,
+    nodes: Given,
+    cubes: Given,
+    words: Positional,
+    opts: Opts,
+) -> Option<Job>
+    ensures { (s : spec.Sorted) → IsGiven nodes.entry s.nodes → IsGiven cubes.entry s.cubes → result ≡ spec.behind_job command.now s words.model words.signals opts }
 {
     if command == "cover" {
         return Some(Job::Cover {
-            model,
-            signals,
+            model: words.model,
+            signals: words.signals,
             opts,
         });
+    }
+    if !nodes.is_never() || !cubes.is_never() {
+        return None;
+    }
+    if command == "replay" {
+        return replay_job(words.model, words.signals);
     }
     None
 }
 
 /// The job of a command on its positional words.
-fn command_job(command: &str, words: Positional, cubes: Given, opts: Opts) -> Option<Job>
-    ensures { (s : spec.Sorted) → IsPositional (Some words) s.positional → IsGiven cubes.entry s.cubes → result ≡ spec.command_job command.now s opts }
+fn command_job(
+    command: &str,
+    words: Positional,
+    nodes: Given,
+    cubes: Given,
+    opts: Opts,
+) -> Option<Job>
+    ensures { (s : spec.Sorted) → IsPositional (Some words) s.positional → IsGiven nodes.entry s.nodes → IsGiven cubes.entry s.cubes → result ≡ spec.command_job command.now s opts }
 {
     if words.signals.len() == 0 {
         model_job(command, cubes, words.model, opts)
     } else {
-        signals_job(command, words.model, words.signals, opts)
+        behind_job(command, nodes, cubes, words, opts)
     }
 }
 
@@ -63,7 +92,13 @@ fn sorted_job(command: &str, sorted: Brief) -> Option<Job>
     ensures { (s : spec.Sorted) → IsBrief sorted.entry s → result ≡ spec.sorted_job command.now s }
 {
     let opts = options(&sorted)?;
-    command_job(command, sorted.positional?, sorted.cubes, opts)
+    command_job(
+        command,
+        sorted.positional?,
+        sorted.nodes,
+        sorted.cubes,
+        opts,
+    )
 }
 
 /// The job of a command and the words behind it.

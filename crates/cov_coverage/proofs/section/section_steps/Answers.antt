@@ -3,7 +3,7 @@ use Rattle.cov_coverage.specs.Sections.{IsUncoveredState}
 use Rattle.cov_coverage.proofs.Standing.{covered_reachable, covered_stands, others_stand, stands_same, state_set, uncovered_reachable}
 use Rattle.cov_coverage.proofs.Writing.{section_put}
 use Rattle.cov_ctl.specs.Formulas.{formula_of}
-use Rattle.cov_pair.specs.Covering.{IsCoveredState}
+use Rattle.cov_claims.specs.Covering.{IsCoveredState}
 use Rattle.cov_report.specs.SpecLines.{signal_line}
 use Rattle.cov_space.specs.Sets.{SpaceOf}
 use Rattle.cov_space.proofs.Calls.{call_leaves, err_exit, on_ok_map}

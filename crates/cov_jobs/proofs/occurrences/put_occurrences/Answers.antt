@@ -1,4 +1,4 @@
-use Rattle.std.proofs.Common.{◌≡◌, ◌+◌, ◌<◌, suc, refl, sym, ◌∙◌, subst, arith}
+use Rattle.std.proofs.Common.{◌≡◌, refl, sym, ◌∙◌, subst, arith}
 use Rattle.cov_logic.specs.Occurrence as logic
 use Rattle.cov_ctl.specs.Formulas.{formula_of}
 use Rattle.cov_ctl.specs.Sizes as sizes

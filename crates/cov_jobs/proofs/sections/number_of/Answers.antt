@@ -1,4 +1,4 @@
-use Rattle.std.proofs.Common.{◌<◌, ◌≤◌, length, arith}
+use Rattle.std.proofs.Common.{arith}
 use Rattle.cov_jobs.proofs.SectionLemmas.{few_specs}
 use Rattle.cov_jobs.proofs.sections.number_of.Goals as goal
 

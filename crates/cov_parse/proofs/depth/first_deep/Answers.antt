@@ -1,4 +1,4 @@
-use Rattle.std.proofs.Common.{◌≡◌, ◌≤◌, sum, subst, sym, ap, ◌∙◌, arith}
+use Rattle.std.proofs.Common.{◌≤◌, sum, subst, ap, ◌∙◌}
 use Rattle.cov_syntax.specs.Limits as spec
 use Rattle.cov_parse.proofs.DepthLemmas.{deep_stops, deep_goes, still_small}
 use Rattle.cov_parse.proofs.depth.first_deep.Goals as goal

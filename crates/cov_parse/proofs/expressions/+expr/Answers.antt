@@ -1,4 +1,4 @@
-use Rattle.std.proofs.Common.{rules, ◌≡◌, ◌≢◌, ◌<◌, ◌≤◌, ◌-◌, [], ◌∷◌, ℕ, length, true, false, Some, None, sym, ◌∙◌, arith}
+use Rattle.std.proofs.Common.{rules, ◌≡◌, length, None, sym, ◌∙◌, arith}
 use Rattle.std.proofs.lemmas.Result.{err_from_is_err_and}
 use Rattle.std.proofs.lemmas.Grind.{common_steps}
 use Rattle.cov_syntax.specs.declared.lexeme.Terminal.TheVariants as k

@@ -1,4 +1,4 @@
-use Rattle.std.proofs.Common.{◌≡◌, ◌-◌, length, sym, ◌∙◌}
+use Rattle.std.proofs.Common.{length, sym, ◌∙◌}
 use Rattle.cov_parse.proofs.Loops.{modules_step}
 use Rattle.cov_parse.proofs.modules.modules.Goals as goal
 

@@ -1,9 +1,9 @@
-use Rattle.std.proofs.Common.{◌≡◌, ◌-◌, ◌+◌, length, sym, ap, ◌∙◌}
+use Rattle.std.proofs.Common.{◌-◌, ◌+◌, sym, ap, ◌∙◌}
 use Rattle.std.proofs.lemmas.Result.{err_from_is_err_and}
 use Rattle.cov_grammar.specs.Modules as spec
 use Rattle.cov_grammar.specs.Steps as steps
 use Rattle.cov_grammar.specs.Steps.{◌>>=◌}
-use Rattle.cov_parse.proofs.Loops.{list_fails, rest_of, many_turn, many_ends, many_stops}
+use Rattle.cov_parse.proofs.Loops.{list_fails, rest_of, many_turn}
 use Rattle.cov_parse.proofs.sections.entries.Goals as goal
 
 pub loop-turn-preserved : goal.loop-turn-preserved

@@ -1,4 +1,4 @@
-use Rattle.std.proofs.Common.{◌≡◌, ◌-◌, length, sym, ◌∙◌}
+use Rattle.std.proofs.Common.{length, sym, ◌∙◌}
 use Rattle.cov_syntax.specs.declared.lexeme.Terminal.TheVariants as k
 use Rattle.cov_syntax.specs.declared.marks.Mark.TheVariants as m
 use Rattle.cov_grammar.specs.Modules.{item}

@@ -1,0 +1,14 @@
+pub mod Claims
+pub mod Faultless
+pub mod Fronts
+pub mod Listing
+pub mod Numbers
+pub mod Pieces
+pub mod Signals
+pub mod Sole
+pub mod StateLaws
+pub mod Taking
+pub mod Texts
+pub mod Walking
+pub mod Whole
+pub mod Writing

@@ -1,0 +1,5 @@
+pub mod Cursors
+pub mod Faults
+pub mod FirstFault
+pub mod Numbers
+pub mod Spelling

@@ -1,0 +1,12 @@
+pub mod Steps
+pub mod ListWalks
+pub mod ExpressionWalks
+pub mod ModuleWalks
+pub mod Agreement
+pub mod ListLocality
+pub mod ExpressionLocality
+pub mod PrimaryLocality
+pub mod ModuleLocality
+pub mod Depth
+pub mod Fronts
+pub mod FirstFaults

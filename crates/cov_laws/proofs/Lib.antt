@@ -1,0 +1,11 @@
+pub mod Covering
+pub mod Dividing
+pub mod Listing
+pub mod Inverting
+pub mod Lowered
+pub mod NamedDefines
+pub mod NamedReadings
+pub mod Replacing
+pub mod SameTrees
+pub mod Shapes
+pub mod TypedStates

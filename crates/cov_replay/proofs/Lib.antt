@@ -1,0 +1,10 @@
+pub mod AtPlaces
+pub mod Claiming
+pub mod Deciding
+pub mod NextAnswers
+pub mod Nodes
+pub mod Runs
+pub mod TellColumns
+pub mod Validity
+pub mod Visits
+pub mod Walking

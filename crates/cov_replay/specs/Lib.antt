@@ -1,0 +1,9 @@
+pub mod Benches
+pub mod Columns
+pub mod Flips
+pub mod Heights
+pub mod Operators
+pub mod Ready
+pub mod Told
+pub mod Verdicts
+pub mod Walks
