@@ -10,4 +10,6 @@ mod models;
 #[cfg(test)]
 mod paths;
 #[cfg(test)]
+mod reading;
+#[cfg(test)]
 mod signals;
