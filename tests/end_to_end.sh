@@ -8,11 +8,11 @@ trap 'rm -rf "$place"' EXIT
 passed=0
 failed=0
 
-# expect NAME STATUS OUT ERR WORD..: the program, with these words, ends and writes so.
+# expect NAME STATUS OUT ERR WORD..: the program, with these words, ends within a minute and writes so.
 expect() {
     local name=$1 status=$2 out=$3 err=$4
     shift 4
-    (cd "$place" && "$program" "$@") >"$place/.out" 2>"$place/.err" </dev/null
+    (cd "$place" && timeout 60 "$program" "$@") >"$place/.out" 2>"$place/.err" </dev/null
     judge "$name" "$status" "$?" "$out" "$err"
 }
 
@@ -34,7 +34,7 @@ stored() {
     shift 3
     local signals=$*
     cp "examples/$name.smv" "$place/$name"
-    (cd "$place" && "$program" "$command" "$name" "$@") >"$place/.out" 2>"$place/.err" </dev/null
+    (cd "$place" && timeout 60 "$program" "$command" "$name" "$@") >"$place/.out" 2>"$place/.err" </dev/null
     judge "$command $name $*" "$status" "$?" "$(cat "tests/reports/$name.$command${signals:+-${signals// /-}}")\n" ''
 }
 
@@ -86,6 +86,45 @@ ASSIGN init(state) := idle;
   esac;
 END
 expect 'a model of several modules' 0 'spec 1 passes: AG !(a.holds & b.holds)\nspec 2 passes: AG (a.asks -> AF a.holds)\nspec 3 passes: AG (a.holds -> AX !a.holds)\nspec 4 passes: AG AF b.holds\n' '' check clients
+cat >"$place/.clients-cover" <<'END'
+spec 1 passes: AG !(a.holds & b.holds)
+  signal a.holds
+    covered
+      t=3,a.state={idle,ask},b.state=use,c.state={idle,ask}
+    uncovered
+      t=1,a.state={idle,ask},b.state={idle,ask}
+      t=2,b.state={idle,ask},c.state={idle,ask}
+      t=3,a.state={idle,ask},b.state={idle,ask},c.state={idle,ask}
+spec 2 passes: AG (a.asks -> AF a.holds)
+  signal a.holds
+    covered
+      t=2,a.state=use,b.state={idle,ask},c.state={idle,ask}
+    uncovered
+      t=1,a.state={idle,ask},b.state={idle,ask}
+      t=2,a.state={idle,ask},b.state={idle,ask},c.state={idle,ask}
+      t=3,a.state={idle,ask},c.state={idle,ask}
+spec 3 passes: AG (a.holds -> AX !a.holds)
+  signal a.holds
+    covered
+      t=1,a.state=ask,b.state={idle,ask}
+      t=3,a.state=idle,c.state={idle,ask}
+    uncovered
+      t=1,a.state=idle,b.state={idle,ask}
+      t=2,b.state={idle,ask},c.state={idle,ask}
+      t=3,a.state=ask,c.state={idle,ask}
+spec 4 passes: AG AF b.holds
+  signal a.holds
+    covered
+      none
+    uncovered
+      t=1,a.state={idle,ask},b.state={idle,ask}
+      t=2,b.state={idle,ask},c.state={idle,ask}
+      t=3,a.state={idle,ask},c.state={idle,ask}
+END
+expect 'coverage of an arbiter of three clients' 0 "$(cat "$place/.clients-cover")\n" '' cover clients a.holds
+printf 'MODULE main VAR q : boolean; ASSIGN init(q) := FALSE; next(q) := !q; SPEC EX q' >"$place/some"
+expect 'coverage of a property that asks for some path' 0 'spec 1 passes: EX q\n  signal q\n    covered\n      q=TRUE\n    uncovered\n      q=FALSE\n' '' cover some q
+expect 'an unknown signal alone' 8 '' 'asked: UnknownSignal z\n' cover some z
 sed 's/esac;$/esac/' "$place/clients" >"$place/unended"
 expect 'a model of several modules with a fault' 3 '' 'model: Syntax at 5:1\n' check unended
 { printf 'MODULE main VAR\n'; for i in $(seq 4097); do echo "v$i : boolean;"; done; } >"$place/many"
@@ -193,6 +232,32 @@ judge 'standard output closed' 5 "$status" '' 'write failed\n'
 status=$?
 : >"$place/.err"
 judge 'standard error closed' 4 "$status" '' ''
+
+# a disk that is full, a reader that is gone, files of other kinds, and names that a terminal may not like
+if [ -c /dev/full ]; then
+    (cd "$place" && "$program" init model) >/dev/full 2>"$place/.err"
+    status=$?
+    : >"$place/.out"
+    judge 'a disk that is full' 5 "$status" '' 'write failed\n'
+    (cd "$place" && "$program" init model frob) >"$place/.out" 2>/dev/full
+    status=$?
+    : >"$place/.err"
+    judge 'an error stream that is full' 2 "$status" '' ''
+fi
+mkfifo "$place/pipe"
+exec 3<>"$place/pipe"
+exec 4>"$place/pipe" 3>&-
+(cd "$place" && exec "$program" init parity) >&4 2>"$place/.err"
+status=$?
+exec 4>&-
+: >"$place/.out"
+judge 'a reader that is gone' 5 "$status" '' 'write failed\n'
+(cat "$place/model" >"$place/pipe" &)
+expect 'a named pipe' 0 'initial\n  a=FALSE\n  a=TRUE,b=FALSE\n' '' init pipe
+expect 'a device without bytes' 3 '' 'model: Syntax at 1:1\n' init /dev/null
+expect 'a device without end' 3 '' 'model: FileTooLong at 1:1\n' init /dev/zero
+expect 'a file name with a line end' 4 '' 'read failed\n' init "$(printf 'no\nsuch')"
+expect 'a signal name with a line end' 8 '' 'asked: UnknownSignal no\nsuch\n' cover toggle "$(printf 'no\nsuch')"
 
 echo "$passed passed, $failed failed"
 [ "$failed" -eq 0 ]
